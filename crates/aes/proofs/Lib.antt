@@ -1,0 +1,9 @@
+pub mod Tables
+pub mod Lists
+pub mod Field
+pub mod Keys
+pub mod Lengths
+pub mod Stream
+pub mod Mac
+pub mod Octets
+pub mod Laws

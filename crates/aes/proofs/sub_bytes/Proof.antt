@@ -1,0 +1,16 @@
+use Rattle.aes.proofs.Lists.{four-by}
+use Rattle.aes.specs.Cipher.{subBytes}
+use borrow.Author.Needs.{needs}
+use Rattle.aes.proofs.sub_bytes.Statement.{statement}
+use Rattle.aes.proofs.sub_bytes.Tie as tie
+
+returns : tie.Need-returns
+unfolding subBytes
+returns c = four-by (c .before .before .before .before .before .before .sub-word .ensures) (c .before .before .before .before .sub-word2 .ensures) (c .before .before .sub-word3 .ensures) (c .sub-word4 .ensures)
+
+pub sub-bytes-spec : {M : Type 1} → statement M
+sub-bytes-spec =
+    tie.close
+    (tie.spec
+    (λ c. search needs) (λ c κs. search needs) (λ c. search needs) (λ c κs. search needs) (λ c. search needs)
+    (λ c κs. search needs) (λ c. search needs) (λ c κs. search needs) returns)

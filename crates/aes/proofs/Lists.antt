@@ -12,7 +12,8 @@ use Rattle.aes.specs.Octets.{upFrom, below, xor}
 use Rattle.aes.proofs.Tables.{table-at}
 
 -- two lists of four are equal place by place
-pub four-by : {A : Type 0} {a b c d a′ b′ c′ d′ : A} → a ≡ a′ → b ≡ b′ → c ≡ c′ → d ≡ d′ → a ∷ b ∷ c ∷ d ∷ [] ≡ a′ ∷ b′ ∷ c′ ∷ d′ ∷ []
+pub four-by : {A : Type 0} {a b c d a′ b′ c′ d′ : A} → a ≡ a′ → b ≡ b′ → c ≡ c′ → d ≡ d′
+    → a ∷ b ∷ c ∷ d ∷ [] ≡ a′ ∷ b′ ∷ c′ ∷ d′ ∷ []
 four-by p q r s = λ i. p i ∷ q i ∷ r i ∷ s i ∷ []
 
 up-length : (i n : ℕ) → length (upFrom i n) ≡ n

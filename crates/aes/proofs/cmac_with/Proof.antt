@@ -23,7 +23,8 @@ loop-holds c = (omega arith, refl)
 
 loop-again : tie.Need-loop-again Inv-loop μ-loop
 unfolding chain
-loop-again c = let l = c .before .before .before .before in
+loop-again c =
+    let l = c .before .before .before .before in
     let a = l .before .before .before .before .args in
     let i = l .loop .done in
     let e : length (a .head .now ++ a .message .now) ≡ length (a .head .now) + length (a .message .now) = length-append (a .head .now) (a .message .now) in
@@ -31,7 +32,8 @@ loop-again c = let l = c .before .before .before .before in
     (omega arith, rw (c .encrypt-with .ensures, c .before .xor-block .ensures, c .before .before .block-at .ensures, add-one i, l .loop .inv .1, b))
 
 returns : tie.Need-returns Inv-loop μ-loop
-returns c = let l = c .before .before .before .before .before in
+returns c =
+    let l = c .before .before .before .before .before in
     let a = l .before .before .before .before .args in
     let e : length (a .head .now ++ a .message .now) ≡ length (a .head .now) + length (a .message .now) = length-append (a .head .now) (a .message .now) in
     let d : l .loop .done ≡ l .before .blocks-before-last .result = omega arith in

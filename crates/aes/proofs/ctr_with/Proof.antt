@@ -24,7 +24,8 @@ output-block-requires : tie.Need-output-block-requires Inv-loop μ-loop
 output-block-requires c κs = (c .before .before .before .pre, c .before .loop .inv .3)
 
 loop-again : tie.Need-loop-again Inv-loop μ-loop
-loop-again c = let l = c .before .before .before in
+loop-again c =
+    let l = c .before .before .before in
     let a = l .before .before .args in
     let s = c .before .output-block .ensures in (
       omega arith,
@@ -37,7 +38,8 @@ same-length : tie.Need-same-length Inv-loop μ-loop
 same-length c = c .before .loop .inv .1
 
 returns : tie.Need-returns Inv-loop μ-loop
-returns c = let p : length (c .before .before .before .args .m .now) ≤ c .before .loop .i = omega arith in
+returns c =
+    let p : length (c .before .before .before .args .m .now) ≤ c .before .loop .i = omega arith in
     c .before .loop .inv .2 ∙ done _ (cipher-length _) _ _ _ p
 
 pub ctr-with-spec : {M : Type 1} → statement M

@@ -23,9 +23,19 @@ loop-again c = (omega arith, rw (c .middle-round .ensures, add-one, c .before .b
 
 returns : tie.Need-returns Inv-loop μ-loop
 unfolding cipher
-returns c = let l = c .before .before .before .before .before in
+returns c =
+    let l = c .before .before .before .before .before in
     let e : l .loop .done ≡ 9 = omega arith in
-    rw (c .from-state .ensures, c .before .add-round-key2 .ensures, c .before .before .shift-rows .ensures, c .before .before .before .sub-bytes .ensures, l .loop .inv .1, e, l .before .add-round-key .ensures, l .before .before .to-state .ensures)
+    rw (
+      c .from-state .ensures,
+      c .before .add-round-key2 .ensures,
+      c .before .before .shift-rows .ensures,
+      c .before .before .before .sub-bytes .ensures,
+      l .loop .inv .1,
+      e,
+      l .before .add-round-key .ensures,
+      l .before .before .to-state .ensures,
+    )
 
 pub encrypt-with-spec : {M : Type 1} → statement M
 encrypt-with-spec =

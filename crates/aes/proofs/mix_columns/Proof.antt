@@ -6,7 +6,10 @@ use Rattle.aes.proofs.mix_columns.Tie as tie
 
 returns : tie.Need-returns
 unfolding mixColumns
-returns c = four-by (c .before .before .before .before .before .before .mix-column .ensures) (c .before .before .before .before .mix-column2 .ensures) (c .before .before .mix-column3 .ensures) (c .mix-column4 .ensures)
+returns c =
+    let c2 = c .before .before in
+    let c4 = c2 .before .before in
+    four-by (c4 .before .before .mix-column .ensures) (c4 .mix-column2 .ensures) (c2 .mix-column3 .ensures) (c .mix-column4 .ensures)
 
 pub mix-columns-spec : {M : Type 1} → statement M
 mix-columns-spec =

@@ -6,7 +6,10 @@ use Rattle.aes.proofs.sub_bytes.Tie as tie
 
 returns : tie.Need-returns
 unfolding subBytes
-returns c = four-by (c .before .before .before .before .before .before .sub-word .ensures) (c .before .before .before .before .sub-word2 .ensures) (c .before .before .sub-word3 .ensures) (c .sub-word4 .ensures)
+returns c =
+    let c2 = c .before .before in
+    let c4 = c2 .before .before in
+    four-by (c4 .before .before .sub-word .ensures) (c4 .sub-word2 .ensures) (c2 .sub-word3 .ensures) (c .sub-word4 .ensures)
 
 pub sub-bytes-spec : {M : Type 1} → statement M
 sub-bytes-spec =

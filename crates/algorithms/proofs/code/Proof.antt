@@ -1,0 +1,19 @@
+use Rattle.algorithms.proofs.Tests.{ladder}
+use Rattle.algorithms.specs.Codes.{codeOf}
+use borrow.Author.Needs.{needs}
+use Rattle.algorithms.proofs.code.Statement.{statement}
+use Rattle.algorithms.proofs.code.Tie as tie
+
+returns : tie.Need-returns
+unfolding codeOf
+returns c = search (needs, ladder)
+
+returns-2 : tie.Need-returns-2
+unfolding codeOf
+returns-2 c = search (needs, ladder)
+
+pub code-spec : {M : Type 1} → statement M
+code-spec =
+    tie.close
+    (tie.spec
+    (λ c κs. search needs) returns returns-2)

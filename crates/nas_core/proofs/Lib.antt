@@ -1,0 +1,4 @@
+pub mod Octets
+pub mod Written
+pub mod Choices
+pub mod Keys

@@ -1,0 +1,258 @@
+// What a 5GS and an EPS context share: keys, codes and size, the code of octets and their ciphering, and a record's COUNT verified and used.
+ghost use mathlib.Core.Path.{_≡_};
+ghost use mathlib.Core.Bool.{false, cond};
+ghost use mathlib.Core.List.{_++_};
+ghost use Prim.Native.Nat.{_+_, _-_, _*_, _≤_, _<_};
+ghost use lib.ListN.{length, drop, getD};
+ghost use Rattle.count.specs.Rule.{exhausted, forwardOf, lateOf, tryForward};
+ghost use Rattle.refusals.specs.Order.{first};
+ghost use Rattle.nas_core.specs.Refusals.{coreFault, sendRefusals, handRefusals, unbuilt};
+ghost use Rattle.nas_core.specs.Keyed.{wraps, codeBy, payload, protected};
+ghost use Rattle.nas_core.specs.Verify.{same, fits, verifyOf, advanced};
+use count::Candidate;
+use count::Opening;
+use count::Record;
+
+// The most inner octets, and the longest container value.
+pub const LIMIT: usize = 8192;
+
+// A next COUNT of this is no COUNT: all are used.
+pub const EXHAUSTED: u32 = 16777216;
+
+#[repr(C)]
+pub struct Core {
+    pub integrity: u8,
+    pub ciphering: u8,
+    pub integrity_key: [u8; 16],
+    pub ciphering_key: [u8; 16],
+    pub size: u8,
+}
+
+// Whether one of two codes is not built.
+pub fn is_unbuilt(integrity: u8, ciphering: u8) -> bool
+    ensures { λ r. ⌜ r ≡ unbuilt integrity ciphering ⌝ }
+{
+    if algorithms::built(integrity) {
+        return !algorithms::built(ciphering);
+    }
+    true
+}
+
+// Refusals 4, 5 and 6 of a call that sends, and 0 for none.
+pub fn to_send(header: usize, n: usize, room: usize, next: u32) -> u8
+    requires { ⌜ header ≤ 8 ⌝ }
+    ensures { λ r. ⌜ r ≡ first (sendRefusals header n room next) ⌝ }
+{
+    if LIMIT < n {
+        return 4;
+    }
+    if room < header + n {
+        return 5;
+    }
+    if EXHAUSTED <= next {
+        return 6;
+    }
+    0
+}
+
+// Refusals 4 and 5 of a call that hands over what is behind a header, and 0 for none.
+pub fn to_hand(header: usize, n: usize, room: usize) -> u8
+    requires { ⌜ header ≤ n ⌝ }
+    ensures { λ r. ⌜ r ≡ first (handRefusals header n room) ⌝ }
+{
+    let inner = n - header;
+    if LIMIT < inner {
+        return 4;
+    }
+    if room < inner {
+        return 5;
+    }
+    0
+}
+
+// The source's octets over the destination's.
+pub fn copy(src: &[u8], dst: &mut [u8])
+    requires { ⌜ length (now src) ≡ length (now dst) ⌝ }
+    ensures { λ r. ⌜ now (dst .exit) ≡ now (src .entry) ⌝ }
+{
+    let mut i = 0;
+    while i < src.len() {
+        dst[i] = src[i];
+        i += 1;
+    }
+}
+
+// Four octets as one number, so that they are compared at once.
+fn word(a: u8, b: u8, c: u8, d: u8) -> u32
+    ensures { λ r. ⌜ r ≡ ((a * 256 + b) * 256 + c) * 256 + d ⌝ }
+{
+    ((a as u32 * 256 + b as u32) * 256 + c as u32) * 256 + d as u32
+}
+
+fn is_code(code: [u8; 4], received: &[u8]) -> bool
+    requires { ⌜ length (now received) ≡ 4 ⌝ }
+    ensures { λ r. ⌜ r ≡ same (now (received .entry)) code ⌝ }
+{
+    let expected = word(code[0], code[1], code[2], code[3]);
+    word(received[0], received[1], received[2], received[3]) == expected
+}
+
+// The code in front of what it covers.
+pub fn put_code(code: [u8; 4], body: &mut [u8])
+    requires { ⌜ 4 ≤ length (now body) ⌝ }
+    ensures { λ r. ⌜ now (body .exit) ≡ code ++ drop 4 (now (body .entry)) ⌝ }
+{
+    body[0] = code[0];
+    body[1] = code[1];
+    body[2] = code[2];
+    body[3] = code[3];
+}
+
+impl Core {
+    // Whether COUNTs go round.
+    pub fn wraps(self) -> bool
+        ensures { λ r. ⌜ r ≡ wraps self ⌝ }
+    {
+        self.integrity == 0
+    }
+
+    // Refusals 13 and 14 of what the context holds, and 0 for none.
+    pub fn fault(self) -> u8
+        ensures { λ r. ⌜ r ≡ coreFault self ⌝ }
+    {
+        if is_unbuilt(self.integrity, self.ciphering) {
+            return 13;
+        }
+        if 64 < self.size {
+            return 14;
+        }
+        0
+    }
+
+    pub fn code(self, count: u32, bearer: u8, direction: u8, octets: &[u8]) -> [u8; 4]
+        ensures { λ r. ⌜ r ≡ codeBy self count bearer direction (now (octets .entry)) ⌝ }
+    {
+        let key = self.integrity_key;
+        algorithms::code(self.integrity, key, count, bearer, direction, octets)
+    }
+
+    // The octets of `inner` over those of `out`, and ciphered there if they are to be.
+    pub fn fill(
+        self,
+        ciphered: bool,
+        count: u32,
+        bearer: u8,
+        direction: u8,
+        inner: &[u8],
+        out: &mut [u8],
+    )
+        requires { ⌜ length (now inner) ≡ length (now out) ⌝ }
+        ensures { λ r. ⌜ now (out .exit) ≡ payload self ciphered count bearer direction (now (inner .entry)) ⌝ }
+    {
+        copy(inner, out);
+        if ciphered {
+            let key = self.ciphering_key;
+            algorithms::cipher(self.ciphering, key, count, bearer, direction, out);
+        }
+    }
+
+    // The payload stands behind five octets: the code and the last octet of the COUNT are written there.
+    pub fn protect(self, count: u32, bearer: u8, direction: u8, body: &mut [u8])
+        requires { ⌜ 5 ≤ length (now body) ⌝ }
+        ensures { λ r. ⌜ now (body .exit) ≡ protected self count bearer direction (drop 5 (now (body .entry))) ⌝ }
+    {
+        body[4] = (count % 256) as u8;
+        let code = self.code(count, bearer, direction, &body[4..]);
+        put_code(code, body);
+    }
+
+    // Whether the code that begins at octet `at` fits the COUNT.
+    pub fn fits(self, count: u32, bearer: u8, direction: u8, at: usize, message: &[u8]) -> bool
+        requires { ⌜ at + 4 ≤ length (now message) ⌝ }
+        ensures { λ r. ⌜ r ≡ fits self count bearer direction at (now (message .entry)) ⌝ }
+    {
+        if self.wraps() {
+            return true;
+        }
+        let end = at + 4;
+        let code = self.code(count, bearer, direction, &message[end..]);
+        is_code(code, &message[at..end])
+    }
+
+    fn late(self, rec: Record, s: u8) -> Candidate
+        ensures { λ r. ⌜ r ≡ cond (wraps self) Candidate.Nothing (lateOf 8 (self .size) rec s) ⌝ }
+    {
+        if self.wraps() {
+            return Candidate::Nothing;
+        }
+        rec.late(self.size, s)
+    }
+
+    pub fn forward(self, rec: Record, s: u8) -> Candidate
+        ensures { λ r. ⌜ r ≡ forwardOf 8 (wraps self) rec s ⌝ }
+    {
+        rec.forward(self.wraps(), s)
+    }
+
+    fn verify_forward(
+        self,
+        rec: Record,
+        bearer: u8,
+        direction: u8,
+        at: usize,
+        message: &[u8],
+    ) -> Opening
+        requires { ⌜ at + 5 ≤ length (now message) ⌝ }
+        ensures { λ r. ⌜ r ≡ tryForward (λ n. fits self n bearer direction at (now (message .entry))) (forwardOf 8 (wraps self) rec (getD (now (message .entry)) (at + 4) 0)) ⌝ }
+    {
+        let last = at + 4;
+        let candidate = self.forward(rec, message[last]);
+        match candidate {
+            Candidate::Nothing => Opening::None,
+            Candidate::At(c) => {
+                if self.fits(c, bearer, direction, at, message) {
+                    Opening::Forward(c)
+                } else {
+                    Opening::Wrong
+                }
+            }
+        }
+    }
+
+    // The COUNT that the code at octet `at` fits: the late candidate's is tried first.
+    pub fn verify(
+        self,
+        rec: Record,
+        bearer: u8,
+        direction: u8,
+        at: usize,
+        message: &[u8],
+    ) -> Opening
+        requires { ⌜ at + 5 ≤ length (now message) ⌝ }
+        ensures { λ r. ⌜ r ≡ verifyOf self rec bearer direction at (now (message .entry)) ⌝ }
+    {
+        let last = at + 4;
+        let candidate = self.late(rec, message[last]);
+        match candidate {
+            Candidate::Nothing => self.verify_forward(rec, bearer, direction, at, message),
+            Candidate::At(c) => {
+                if self.fits(c, bearer, direction, at, message) {
+                    Opening::Late(c)
+                } else {
+                    self.verify_forward(rec, bearer, direction, at, message)
+                }
+            }
+        }
+    }
+
+    // The record with the COUNT used forward.
+    pub fn advance(self, rec: Record, c: u32) -> Record
+        requires { ⌜ (c < exhausted) × (self .size ≤ 64) × (wraps self ≡ false → rec .next ≤ c) ⌝ }
+        ensures { λ r. ⌜ r ≡ advanced self rec c ⌝ }
+    {
+        if self.wraps() {
+            return rec.go_round(c);
+        }
+        rec.advance(self.size, c)
+    }
+}

@@ -1,0 +1,1 @@
+// Refusals as lists in their order: definitions and laws alone.

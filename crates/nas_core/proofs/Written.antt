@@ -1,10 +1,11 @@
 -- A payload of n octets lent at f, then the five octets before it and the payload lent at a: what the whole list is when both are back.
-use mathlib.Core.Path.{_≡_, refl, ap, _∙_}
-use mathlib.Core.List.{List, [], _∷_, _++_}
+use mathlib.Core.Path.{_≡_, ap, sym, _∙_}
+use mathlib.Core.List.{List, _++_, append-assoc}
 use Prim.Native.Nat.{ℕ, _+_, _-_, _≤_}
 use native.Mathlib.Omega.{arith}
-use lib.ListN.{length, take, drop, set, length-append, length-take, length-drop}
-use lib.Seq.{take-at, drop-at, drop-append-le, take-append-add, drop-append-add}
+use lib.ListN.{length, take, drop, length-append, length-take, length-drop}
+use lib.Seq.{take-at, drop-at, drop-append-le, take-append-add, drop-append-add, sets}
+use Rattle.nas_core.proofs.Octets.{stored}
 use borrow.Rule.Slice.PartMut.{putMid, post-is}
 
 module _ (a f e n : ℕ) (xs ys : List ℕ) (hf : f ≡ a + 5) (he : e ≡ f + n) (room : e ≤ length xs) (many : length ys ≡ n) where
@@ -41,12 +42,15 @@ module _ (a f e n : ℕ) (xs ys : List ℕ) (hf : f ≡ a + 5) (he : e ≡ f + n
       ∙ drop-append-add h (ys ++ drop e xs) n
       ∙ drop-at ys (drop e xs) n many
 
--- a header of one octet, and of two, stored in front
-pub one : (w z : List ℕ) (u : ℕ) → 1 ≤ length w → set (take 1 w ++ z) 0 u ≡ u ∷ z
-one [] z u h = absurd (omega arith)
-one (a ∷ w) z u h = refl
-
-pub two : (w z : List ℕ) (u v : ℕ) → 2 ≤ length w → set (set (take 2 w ++ z) 0 u) 1 v ≡ u ∷ v ∷ z
-two [] z u v h = absurd (omega arith)
-two (a ∷ []) z u v h = absurd (omega arith)
-two (a ∷ b ∷ w) z u v h = refl
+  -- with what was made of the payload, and the header stored in front
+  pub sealed : (header zs made : List ℕ) → length header ≡ a → zs ≡ made → length made ≡ 5 + n
+      → sets (putMid a (e - a) (putMid f (e - f) xs ys) zs) 0 header ≡ header ++ made ++ drop (length (header ++ made)) xs
+  sealed header zs made h z l =
+      let w = putMid f (e - f) xs ys in
+      let long : length (take a w) ≡ length header = simp length-take (omega (arith, mid-length)) in
+      let fits : length header ≤ length (putMid a (e - a) w zs) = simp length-append (omega arith) in
+      let far : e ≡ length (header ++ made) = simp length-append (omega arith) in
+      stored header (putMid a (e - a) w zs) fits
+      ∙ ap (λ (q : List ℕ). header ++ q) (drop-at (take a w) (zs ++ drop (e - a) (drop a w)) (length header) long ∙ ap (λ (q : List ℕ). zs ++ q) after ∙ ap (λ (q : List ℕ). q ++ drop e xs) z)
+      ∙ sym (append-assoc header made (drop e xs))
+      ∙ ap (λ (k : ℕ). header ++ made ++ drop k xs) far

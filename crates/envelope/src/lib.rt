@@ -1,0 +1,151 @@
+// 5GS and EPS messages and the S1-to-N1 container as octets, made and read with a context's keys.
+ghost use mathlib.Core.Path.{_≡_};
+ghost use Prim.Native.Nat.{_+_, _-_, _≤_};
+ghost use lib.ListN.{length, drop};
+ghost use Rattle.look.specs.Look.{lookOf};
+ghost use Rattle.nas_core.specs.Keyed.{payload};
+ghost use Rattle.nas_core.specs.Verify.{fits};
+ghost use Rattle.envelope.specs.Envelope.{wrongType, ciphers, envelope, over};
+ghost use Rattle.envelope.specs.Eps.{notEps, epsMessage};
+ghost use Rattle.envelope.specs.Containers.{s1ToN1, s1Count, containerBearer, containerDirection, otherAlgorithms};
+use nas_core::Core;
+
+// The COUNT of the S1-to-N1 container's code (TS 33.501 6.9.2.3.3).
+const S1_COUNT: u32 = 4294967295;
+
+// Refusal 3.
+pub fn is_wrong_type(header_type: u8) -> bool
+    ensures { λ r. ⌜ r ≡ wrongType «header_type» ⌝ }
+{
+    if header_type < 1 {
+        return true;
+    }
+    4 < header_type
+}
+
+fn is_ciphering(header_type: u8) -> bool
+    ensures { λ r. ⌜ r ≡ ciphers «header_type» ⌝ }
+{
+    if header_type == 2 {
+        return true;
+    }
+    header_type == 4
+}
+
+// A 5GS message to the front of the output: the payload behind its seven header octets, then these.
+pub fn put(
+    core: Core,
+    header_type: u8,
+    count: u32,
+    bearer: u8,
+    direction: u8,
+    inner: &[u8],
+    out: &mut [u8],
+)
+    requires { ⌜ 7 + length (now inner) ≤ length (now out) ⌝ }
+    ensures { λ r. ⌜ now (out .exit) ≡ over (envelope core «header_type» count bearer direction (now (inner .entry))) (now (out .entry)) ⌝ }
+{
+    let end = 7 + inner.len();
+    let ciphered = is_ciphering(header_type);
+    core.fill(ciphered, count, bearer, direction, inner, &mut out[7..end]);
+    core.protect(count, bearer, direction, &mut out[2..end]);
+    out[0] = 0x7e;
+    out[1] = header_type;
+}
+
+// The plaintext of a 5GS message to the front of the output, and what the look says of it.
+pub fn read(
+    core: Core,
+    header_type: u8,
+    count: u32,
+    bearer: u8,
+    direction: u8,
+    message: &[u8],
+    out: &mut [u8],
+) -> u8
+    requires { ⌜ (7 ≤ length (now message)) × (length (now message) - 7 ≤ length (now out)) ⌝ }
+    ensures plain { λ r. ⌜ now (out .exit) ≡ over (payload core (ciphers «header_type») count bearer direction (drop 7 (now (message .entry)))) (now (out .entry)) ⌝ }
+    ensures looked { λ r. ⌜ r ≡ lookOf «header_type» direction (payload core (ciphers «header_type») count bearer direction (drop 7 (now (message .entry)))) ⌝ }
+{
+    let wrote = message.len() - 7;
+    let ciphered = is_ciphering(header_type);
+    core.fill(
+        ciphered,
+        count,
+        bearer,
+        direction,
+        &message[7..],
+        &mut out[..wrote],
+    );
+    look::look(header_type, direction, &out[..wrote])
+}
+
+// Refusal 12: neither ATTACH REQUEST nor TRACKING AREA UPDATE REQUEST.
+pub fn not_eps(octets: &[u8]) -> bool
+    ensures { λ r. ⌜ r ≡ notEps (now (octets .entry)) ⌝ }
+{
+    if octets.len() < 2 {
+        return true;
+    }
+    if octets[0] != 0x07 {
+        return true;
+    }
+    if octets[1] == 0x41 {
+        return false;
+    }
+    octets[1] != 0x48
+}
+
+// An EPS message to the front of the output.
+pub fn put_eps(core: Core, count: u32, inner: &[u8], out: &mut [u8])
+    requires { ⌜ 6 + length (now inner) ≤ length (now out) ⌝ }
+    ensures { λ r. ⌜ now (out .exit) ≡ over (epsMessage core count (now (inner .entry))) (now (out .entry)) ⌝ }
+{
+    let end = 6 + inner.len();
+    nas_core::copy(inner, &mut out[6..end]);
+    core.protect(count, 1, 0, &mut out[1..end]);
+    out[0] = 0x17;
+}
+
+// What follows the header of an EPS message to the front of the output, and whether it is refused.
+pub fn read_eps(message: &[u8], out: &mut [u8]) -> bool
+    requires { ⌜ (6 ≤ length (now message)) × (length (now message) - 6 ≤ length (now out)) ⌝ }
+    ensures plain { λ r. ⌜ now (out .exit) ≡ over (drop 6 (now (message .entry))) (now (out .entry)) ⌝ }
+    ensures looked { λ r. ⌜ r ≡ notEps (drop 6 (now (message .entry))) ⌝ }
+{
+    let wrote = message.len() - 6;
+    nas_core::copy(&message[6..], &mut out[..wrote]);
+    not_eps(&message[6..])
+}
+
+// Refusal 15.
+pub fn other_algorithms(core: Core, value: &[u8]) -> bool
+    requires { ⌜ 8 ≤ length (now value) ⌝ }
+    ensures { λ r. ⌜ r ≡ otherAlgorithms core (now (value .entry)) ⌝ }
+{
+    if value[4] / 16 != core.ciphering {
+        return true;
+    }
+    value[4] % 16 != core.integrity
+}
+
+// The S1-to-N1 container to the front of the output.
+pub fn put_s1_to_n1(core: Core, ncc: u8, ngksi: u8, out: &mut [u8])
+    requires { ⌜ (ncc ≤ 7) × (ngksi ≤ 15) × (core .integrity ≤ 15) × (core .ciphering ≤ 15) × (8 ≤ length (now out)) ⌝ }
+    ensures { λ r. ⌜ now (out .exit) ≡ over (s1ToN1 core ncc ngksi) (now (out .entry)) ⌝ }
+{
+    out[4] = core.ciphering * 16 + core.integrity;
+    out[5] = ncc * 16 + ngksi;
+    out[6] = 0;
+    out[7] = 0;
+    let code = core.code(S1_COUNT, 1, 1, &out[4..8]);
+    nas_core::put_code(code, out);
+}
+
+// Whether the code of an S1-to-N1 container fits.
+pub fn fits_s1_to_n1(core: Core, value: &[u8]) -> bool
+    requires { ⌜ 8 ≤ length (now value) ⌝ }
+    ensures { λ r. ⌜ r ≡ fits core s1Count containerBearer containerDirection 0 (now (value .entry)) ⌝ }
+{
+    core.fits(S1_COUNT, 1, 1, 0, value)
+}

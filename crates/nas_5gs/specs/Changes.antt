@@ -1,0 +1,63 @@
+-- Creation, restore, reselection and the window size: calls that use no COUNT (document 01, "Words" and "The COUNT rule").
+use Prim.Native.Nat.{ℕ}
+use mathlib.Core.List.{List, [], _∷_}
+use lib.ListN.{getD, replicate}
+use lib.Dec.{ltb}
+use Rattle.count.specs.Rule.{resizeOf}
+use Rattle.refusals.specs.Order.{_when_, first, refusedOr}
+use Rattle.nas_core.specs.Refusals.{unbuilt}
+use Rattle.nas_core.specs.declared.Core.{Core}
+use Rattle.nas_5gs.specs.declared.Context.{Context}
+use Rattle.nas_5gs.specs.declared.ChangeAnswer.{ChangeAnswer}
+use Rattle.nas_5gs.specs.declared.ChangeAnswer.the-variants.{Refused, Done}
+use Rattle.nas_5gs.specs.Places.{recordAt, four, anyOver, faultOf}
+use Rattle.nas_5gs.specs.Leaves.{Leaves, leaves}
+
+abbrev pub coreWith : ℕ → ℕ → List ℕ → List ℕ → ℕ → Core
+coreWith i c ik ck n =
+    record { integrity = i; ciphering = c; «integrity_key» = ik; «ciphering_key» = ck; size = n }
+
+-- four next COUNTs, size 0, no bit marked
+abbrev pub contextWith : ℕ → ℕ → List ℕ → List ℕ → List ℕ → Context
+contextWith i c ik ck next =
+    record { core = coreWith i c ik ck 0; records = four (λ p. record { next = getD next p 0; bits = 0 }) }
+
+-- what a refused creation or restore hands back: both codes 255, all else 0
+abbrev pub refusedContext : Context
+refusedContext = contextWith 255 255 (replicate 16 0) (replicate 16 0) (replicate 4 0)
+
+-- creation: 13
+unfoldable pub newOf : ℕ → ℕ → List ℕ → List ℕ → Leaves ChangeAnswer
+newOf i c ik ck =
+    refusedOr (first (13 when unbuilt i c ∷ []))
+    (λ n. leaves (Refused n) refusedContext [])
+    (leaves Done (contextWith i c ik ck (replicate 4 0)) [])
+
+-- restore: 13, 16
+unfoldable pub restoreOf : ℕ → ℕ → List ℕ → List ℕ → List ℕ → Leaves ChangeAnswer
+restoreOf i c ik ck next =
+    refusedOr (first (13 when unbuilt i c ∷ 16 when anyOver (four (λ p. getD next p 0)) ∷ []))
+    (λ n. leaves (Refused n) refusedContext [])
+    (leaves Done (contextWith i c ik ck next) [])
+
+-- reselection: 13; next COUNTs, size and bits stay
+unfoldable pub reselectOf : Context → ℕ → ℕ → List ℕ → List ℕ → Leaves ChangeAnswer
+reselectOf x i c ik ck =
+    refusedOr (first (faultOf x ∷ 13 when unbuilt i c ∷ []))
+    (λ n. leaves (Refused n) x [])
+    (leaves Done (record { core = coreWith i c ik ck (x .core .size); records = x .records }) [])
+
+-- every record under a new size
+unfoldable pub resized : Context → ℕ → Context
+resized x n =
+    record {
+      core = coreWith (x .core .integrity) (x .core .ciphering) (x .core .«integrity_key») (x .core .«ciphering_key») n;
+      records = four (λ p. resizeOf (x .core .size) n (recordAt x p));
+    }
+
+-- window size: 14
+unfoldable pub windowOf : Context → ℕ → Leaves ChangeAnswer
+windowOf x n =
+    refusedOr (first (faultOf x ∷ 14 when (ltb 64 n) ∷ []))
+    (λ k. leaves (Refused k) x [])
+    (leaves Done (resized x n) [])

@@ -1,0 +1,119 @@
+// The EPS message of a UE that goes from 5GS to EPS: uplink 3GPP record, bearer 1, direction 0.
+ghost use mathlib.Core.Path.{_≡_};
+ghost use Prim.Native.Nat.{_+_, _-_, _≤_, _<_};
+ghost use lib.ListN.{length, drop};
+ghost use Rattle.nas_5gs.specs.Leaves.{leaves};
+ghost use Rattle.nas_5gs.specs.Eps.{sealEpsRefusal, sealEpsOf, openEpsRefusal, epsHanded, epsOpened, openEpsOf};
+use crate::Context;
+use crate::EpsOpenAnswer;
+use crate::EpsOpenDone;
+use crate::UseAnswer;
+use crate::UseDone;
+use count::Opening;
+
+impl Context {
+    fn seal_eps_refusal(self, inner: &[u8], room: usize) -> u8
+        ensures { λ r. ⌜ r ≡ sealEpsRefusal self (now (inner .entry)) room ⌝ }
+    {
+        let n = self.fault();
+        if n != 0 {
+            return n;
+        }
+        if envelope::not_eps(inner) {
+            return 12;
+        }
+        let next = self.records[0].next;
+        nas_core::to_send(6, inner.len(), room, next)
+    }
+
+    pub fn seal_eps(self, inner: &[u8], out: &mut [u8]) -> UseDone
+        ensures { λ r. ⌜ leaves (r .answer) (r .context) (now (out .exit)) ≡ sealEpsOf self (now (inner .entry)) (now (out .entry)) ⌝ }
+    {
+        let n = self.seal_eps_refusal(inner, out.len());
+        if n != 0 {
+            return UseDone {
+                answer: UseAnswer::Refused(n),
+                context: self,
+            };
+        }
+        let count = self.records[0].next;
+        let wrote = 6 + inner.len();
+        envelope::put_eps(self.core, count, inner, out);
+        UseDone {
+            answer: UseAnswer::Used { count, wrote },
+            context: self.used(0, count),
+        }
+    }
+
+    fn open_eps_refusal(self, message: &[u8], room: usize) -> u8
+        ensures { λ r. ⌜ r ≡ openEpsRefusal self (now (message .entry)) room ⌝ }
+    {
+        let n = self.fault();
+        if n != 0 {
+            return n;
+        }
+        if message.len() < 6 {
+            return 1;
+        }
+        if message[0] != 0x17 {
+            return 2;
+        }
+        nas_core::to_hand(6, message.len(), room)
+    }
+
+    // The code is verified: what follows the header goes to the front of the output, and is looked at.
+    fn hand_eps(next: Context, count: u32, message: &[u8], out: &mut [u8]) -> EpsOpenDone
+        requires { ⌜ (6 ≤ length (now message)) × (length (now message) - 6 ≤ length (now out)) ⌝ }
+        ensures { λ r. ⌜ leaves (r .answer) (r .context) (now (out .exit)) ≡ epsHanded (drop 6 (now (message .entry))) (now (out .entry)) count next ⌝ }
+    {
+        let wrote = message.len() - 6;
+        if envelope::read_eps(message, out) {
+            let answer = EpsOpenAnswer::Content {
+                count,
+                wrote,
+                number: 12,
+            };
+            return EpsOpenDone {
+                answer,
+                context: next,
+            };
+        }
+        EpsOpenDone {
+            answer: EpsOpenAnswer::Accepted { count, wrote },
+            context: next,
+        }
+    }
+
+    fn receive_eps(self, message: &[u8], out: &mut [u8]) -> EpsOpenDone
+        requires { ⌜ (self .core .size ≤ 64) × (6 ≤ length (now message)) × (length (now message) - 6 ≤ length (now out)) ⌝ }
+        ensures { λ r. ⌜ leaves (r .answer) (r .context) (now (out .exit)) ≡ epsOpened self (now (message .entry)) (now (out .entry)) ⌝ }
+    {
+        let core = self.core;
+        let choice = core.verify(self.records[0], 1, 0, 1, message);
+        match choice {
+            Opening::None => EpsOpenDone {
+                answer: EpsOpenAnswer::Refused(6),
+                context: self,
+            },
+            Opening::Wrong => EpsOpenDone {
+                answer: EpsOpenAnswer::Refused(7),
+                context: self,
+            },
+            Opening::Late(c) => Context::hand_eps(self.used_late(0, c), c, message, out),
+            Opening::Forward(c) => Context::hand_eps(self.used(0, c), c, message, out),
+        }
+    }
+
+    pub fn open_eps(self, message: &[u8], out: &mut [u8]) -> EpsOpenDone
+        ensures { λ r. ⌜ leaves (r .answer) (r .context) (now (out .exit)) ≡ openEpsOf self (now (message .entry)) (now (out .entry)) ⌝ }
+    {
+        let n = self.open_eps_refusal(message, out.len());
+        if n != 0 {
+            return EpsOpenDone {
+                answer: EpsOpenAnswer::Refused(n),
+                context: self,
+            };
+        }
+        self.receive_eps(message, out)
+    }
+}

@@ -36,7 +36,7 @@ module _ (p q size : ℕ) (l : List Record) where
   state-after (uses w c) h = stored w c h (eqb p q) refl
   state-after (resize new) h = λ i. record { size = new; at = map-at (resizeOf size new) l p h i }
 
-  length-after : (a : Act) → length (recordsAfter q a size l) ≡ length l
+  pub length-after : (a : Act) → length (recordsAfter q a size l) ≡ length l
   length-after stay = refl
   length-after (uses w c) = length-set l q (useBy w size (getD l q nothing) c)
   length-after (resize new) = length-map l (resizeOf size new)
@@ -46,7 +46,7 @@ module _ (p q size : ℕ) (l : List Record) where
   only-there w c v true e = subst (λ (k : ℕ). Valid (uses w c) (stateAt k size l)) (sym (eqb-true p q e)) v
   only-there w c v false e = tt
 
-  seen-valid : (a : Act) → Valid a (stateAt q size l) → Valid (seen p q a) (stateAt p size l)
+  pub seen-valid : (a : Act) → Valid a (stateAt q size l) → Valid (seen p q a) (stateAt p size l)
   seen-valid stay v = tt
   seen-valid (uses w c) v = only-there w c v (eqb p q) refl
   seen-valid (resize new) v = tt
@@ -69,7 +69,7 @@ other-stays p q stay ne other = refl
 other-stays p q (uses w c) ne other = simp (ne-eqb p q ne)
 other-stays p q (resize new) ne other = absurd (other new refl)
 
-view-gives : {X C : Type 0} (T : Machine X C) (Good : X → Type 0) → Acting T Good → (k : C) (x : X) → Good x → (p : ℕ) → p < length (T .records x)
+pub view-gives : {X C : Type 0} (T : Machine X C) (Good : X → Type 0) → Acting T Good → (k : C) (x : X) → Good x → (p : ℕ) → p < length (T .records x)
     → view T p (T .gives k x) ≡ act (seen p (T .place k x) (T .does k x)) (view T p x)
 view-gives T Good acting k x good p there =
     ap (λ (n : ℕ). stateAt p n (T .records (T .gives k x))) (acting .size-after k x good)
@@ -82,7 +82,7 @@ others X C T Good acting k x good p there ne other =
     ∙ ap (λ (a : Act). act a (view T p x)) (other-stays p (T .place k x) (T .does k x) ne other)
 
 module _ {X C : Type 0} (T : Machine X C) (Good : X → Type 0) (sound : Sound T Good) (x : X) (good : Good x) (p : ℕ) (there : p < length (T .records x)) where
-  still-good : (ks : List C) → Good (givesAll T x ks)
+  pub still-good : (ks : List C) → Good (givesAll T x ks)
   still-good [] = good
   still-good (k ∷ ks) = sound .stays k (givesAll T x ks) (still-good ks)
 
@@ -111,7 +111,7 @@ module _ {X C : Type 0} (T : Machine X C) (Good : X → Type 0) (sound : Sound T
         fair ks,
       )
 
-  used-history : (ks : List C) → usedAt T p x ks ≡ history (actsOn T p x ks)
+  pub used-history : (ks : List C) → usedAt T p x ks ≡ history (actsOn T p x ks)
   used-history [] = refl
   used-history (k ∷ ks) = let y = givesAll T x ks in simp (used-seen p (T .place k y) (T .does k y), used-history ks)
 

@@ -6,4 +6,3 @@ pub mod Seal
 pub mod Open
 pub mod Eps
 pub mod Containers
-pub mod Whole

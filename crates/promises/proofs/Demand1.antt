@@ -1,0 +1,396 @@
+-- Demand 1.
+use Prim.Native.Nat.{ℕ, _+_, _-_, _≤_}
+use mathlib.Core.Path.{_≡_, refl, sym, ap, _∙_, subst}
+use mathlib.Core.Bool.{Bool, true, false, cond}
+use mathlib.Core.Logic.{_⊎_, inl, inr}
+use mathlib.Core.List.{List, [], _∷_}
+use native.Mathlib.Omega.{arith}
+use lib.ListN.{length, getD, drop, replicate, length-append, length-drop}
+use lib.Seq.{drop-append-seam}
+use lib.Dec.{eqb, ltb}
+use borrow.Author.Tests.{eqb-true, eqb-false, ne-eqb, ltb-false}
+use Rattle.count.specs.declared.Opening.{Opening}
+use Rattle.count.specs.declared.Opening.the-variants.{Late, Forward, None, Wrong}
+use Rattle.count.specs.declared.Candidate.{Candidate}
+use Rattle.count.specs.declared.Candidate.the-variants.{Nothing, At}
+use Rattle.count.specs.Rule.{forwardOf, tryForward, forwardOnly}
+use Rattle.count.specs.Run.{In}
+use Rattle.count.proofs.Candidates.{never}
+use Rattle.count.proofs.Openings.{answers}
+use Rattle.refusals.specs.Order.{_when_, first, refusedOr}
+use Rattle.refusals.proofs.Laws.{passed, off}
+use Rattle.algorithms.proofs.Laws.{code-length}
+use Rattle.algorithms.specs.Codes.{isBuilt}
+use Rattle.look.specs.Look.{lookOf}
+use Rattle.nas_core.specs.Refusals.{unbuilt, coreFault}
+use Rattle.nas_core.specs.Keyed.{wraps, codeBy}
+use Rattle.nas_5gs.specs.declared.Context.{Context}
+use Rattle.nas_5gs.specs.declared.ChangeAnswer.the-variants as change
+use Rattle.nas_5gs.specs.declared.UseAnswer.the-variants as use′
+use Rattle.nas_5gs.specs.declared.OpenAnswer.the-variants as open′
+use Rattle.nas_5gs.specs.declared.EpsOpenAnswer.the-variants as eps
+use Rattle.nas_5gs.specs.Places.{directionNo, bearerNo, placeOf, four, anyOver, recordAt, nextAt, faultOf, used, usedLate}
+use Rattle.nas_5gs.specs.Leaves.{leaves, over, useNext, received, Values, refusal, changeValues, useValues, openValues, epsOpenValues}
+use Rattle.nas_5gs.specs.Changes.{coreWith, contextWith, refusedContext, newOf, restoreOf, reselectOf}
+use Rattle.nas_5gs.specs.Envelope.{ciphers, envelope}
+use Rattle.nas_5gs.specs.Seal.{sealRefusals, sealRefusal, opaqueRefusals, opaqueRefusal}
+use Rattle.nas_5gs.specs.Open.{typeOf, openRefusals, openRefusal, handed, opened}
+use Rattle.nas_5gs.specs.Eps.{epsPlace, notEps, epsMessage, sealEpsRefusals, sealEpsRefusal, openEpsRefusals, openEpsRefusal, epsHanded, epsOpened}
+use Rattle.nas_5gs.specs.Containers.{containerPlace, containerBearer, containerDirection, s1Count, s1Value, s1ToN1, s1ToN1Refusals, s1ToN1Refusal}
+use Rattle.promises.specs.Calls.{create, restore, makes, Any, reselect, givesAny, lentAny, Call, setWindow, seal5gs, sealOpaque, open5gs, sealEps, openEps, makeN1ToS1, verifyN1ToS1, makeS1ToN1, verifyS1ToN1, call, Outcome, outcome, gives, lent, placeIn}
+use Rattle.promises.specs.Demand1.{numbersOf, Demand1, MayBeLate, Demand1Uses, HandsOver, Opened, Demand1Open, Demand1Making}
+use Rattle.promises.proofs.Shapes.{refusalOf, found, plain, look, openedAs, epsFound, epsAs, octetFound, octetRefused, octetUsed}
+use Rattle.promises.proofs.Passing.{passes, alone, sends, gives-passed, gives-refused, uses-passed}
+use Rattle.promises.proofs.Numbers.{Among, there, refusal-listed, refusal-not-8, reselect-listed, look-listed, fault-first}
+use Rattle.promises.proofs.Opening.{payload-length, eps-sealed}
+use Rattle.promises.proofs.Taking.{Answering, left, open-answering, eps-answering, open-left, eps-left, envelope-long}
+
+-- what demand 1 says of one outcome
+record Told (s : List ℕ) (x : Context) (out : List ℕ) (o : Outcome) : Type 0 where
+  answers : Among s (o .values .number)
+  kept : (o .values .number ≡ 0 → ⊥) → (o .values .number ≡ 8 → ⊥) → (o .values ≡ refusal (o .values .number)) × (o .context ≡ x) × (o .output ≡ out)
+  behind : drop (o .values .wrote) (o .output) ≡ drop (o .values .wrote) out
+  room : length (o .output) ≡ length out
+
+module _ (s : List ℕ) (x : Context) (out : List ℕ) where
+  told-alone : (n : ℕ) → In n s → Told s x out (alone n x out)
+  told-alone n h = record { answers = inr h; kept = λ a b. (refl, refl, refl); behind = refl; room = refl }
+
+  -- a success, or 8
+  told-over : (v : Values) (y : Context) (octets : List ℕ) → (v .number ≡ 0) ⊎ ((v .number ≡ 8) × In 8 s) → v .wrote ≡ length octets
+      → length octets ≤ length out → Told s x out (record { values = v; context = y; output = over octets out })
+  told-over v y octets number wrote fit =
+      record {
+        answers = elim number [ inl e ↦ inl e | inr e ↦ inr (subst (λ (n : ℕ). In n s) (sym (e .0)) (e .1)) ];
+        kept = λ a b. elim number [ inl e ↦ absurd (a e) | inr e ↦ absurd (b (e .0)) ];
+        behind = rw wrote (drop-append-seam octets (drop (length octets) out));
+        room = simp (length-append, length-drop) (omega arith);
+      }
+
+  told-sends : (p : ℕ) (made : ℕ → List ℕ) → length (made (nextAt x p)) ≤ length out → Told s x out (sends x p made out)
+  unfolding useNext
+  told-sends p made fit =
+      let c = nextAt x p in
+      told-over (useValues (use′.Used c (length (made c)))) (used x p c) (made c) (inl refl) refl fit
+
+  told-received : {A : Type 0} (v : A → Values) (no′ yes′ : ℕ → A) (plain-of : ℕ → List ℕ) (a : Answering v no′ yes′ plain-of) (p : ℕ) (o : Opening)
+      → ((n : ℕ) → v (no′ n) ≡ refusal n) → In 6 s → In 7 s → In 8 s → ((c : ℕ) → length (plain-of c) ≤ length out)
+      → Told s x out (left v no′ yes′ plain-of a x p out o)
+  told-received v no′ yes′ plain-of a p None alike six seven eight fit = rw (alike 6) (told-alone 6 six)
+  told-received v no′ yes′ plain-of a p Wrong alike six seven eight fit = rw (alike 7) (told-alone 7 seven)
+  told-received v no′ yes′ plain-of a p (Late c) alike six seven eight fit =
+      told-over (v (yes′ c)) (usedLate x p c) (plain-of c) (elim (a .number c) [ inl e ↦ inl e | inr e ↦ inr (e, eight) ]) (a .wrote c) (fit c)
+  told-received v no′ yes′ plain-of a p (Forward c) alike six seven eight fit =
+      told-over (v (yes′ c)) (used x p c) (plain-of c) (elim (a .number c) [ inl e ↦ inl e | inr e ↦ inr (e, eight) ]) (a .wrote c) (fit c)
+
+-- what is not refused fits the room
+fits-room : (l : List ℕ) (i room n : ℕ) → first l ≡ 0 → getD l i 0 ≡ 5 when (ltb room n) → n ≤ room
+fits-room l i room n e q = ltb-false room n (off 5 (ltb room n) (omega arith) (sym q ∙ passed l e i))
+
+-- the N1-to-S1 container has no code, so none is wrong
+never-wrong : (l : Candidate) → tryForward (λ c. true) l ≡ Wrong → ⊥
+never-wrong Nothing e = let z : _≡_ {A = ℕ} 0 1 = cc in omega arith
+never-wrong (At c) e = let z : _≡_ {A = ℕ} 0 1 = cc in omega arith
+
+octet-not-wrong : (x : Context) (n : ℕ) → octetFound x n ≡ Wrong → ⊥
+unfolding forwardOnly
+octet-not-wrong x n = never-wrong (forwardOf 8 (wraps (x .core)) (recordAt x containerPlace) n)
+
+told-octet : (s : List ℕ) (x : Context) (n : ℕ) (o : Opening) → In 6 s → (o ≡ Wrong → ⊥)
+    → Told s x [] (outcome useValues (received x containerPlace (octetRefused x n) (octetUsed x n) o))
+told-octet s x n None six not-wrong = told-alone s x [] 6 six
+told-octet s x n Wrong six not-wrong = absurd (not-wrong refl)
+told-octet s x n (Late c) six not-wrong = told-over s x [] (useValues (use′.Used c 0)) (usedLate x containerPlace c) [] (inl refl) refl (omega arith)
+told-octet s x n (Forward c) six not-wrong = told-over s x [] (useValues (use′.Used c 0)) (used x containerPlace c) [] (inl refl) refl (omega arith)
+
+pub s1-long : (x : Context) (ncc ngksi : ℕ) → length (s1ToN1 (x .core) ncc ngksi) ≡ 8
+unfolding s1ToN1 codeBy
+s1-long x ncc ngksi =
+    let n = code-length (x .core .integrity) (x .core .«integrity_key») s1Count containerBearer containerDirection (s1Value (x .core) ncc ngksi) in
+    simp (length-append, n)
+
+told-passes : (k : Call) (x : Context) → refusalOf k x ≡ 0 → Told (numbersOf (call k)) x (lent k) (passes k x)
+unfolding sealRefusal opaqueRefusal openRefusal sealEpsRefusal openEpsRefusal s1ToN1Refusal opened handed epsOpened epsHanded
+told-passes (setWindow n) x e = record { answers = inl refl; kept = λ a b. absurd (a refl); behind = refl; room = refl }
+told-passes (seal5gs t d k inner out) x e =
+    let p = placeOf d k in
+    let h : 7 + length inner ≤ length out = fits-room (sealRefusals x t p (directionNo d) inner (length out)) 6 (length out) (7 + length inner) e refl in
+    told-sends (numbersOf (call (seal5gs t d k inner out))) x out p (λ c. envelope (x .core) t c (bearerNo k) (directionNo d) inner)
+    (omega (arith, envelope-long (x .core) t (nextAt x p) (bearerNo k) (directionNo d) inner))
+told-passes (sealOpaque t d k inner out) x e =
+    let p = placeOf d k in
+    let h : 7 + length inner ≤ length out = fits-room (opaqueRefusals x t p inner (length out)) 3 (length out) (7 + length inner) e refl in
+    told-sends (numbersOf (call (sealOpaque t d k inner out))) x out p (λ c. envelope (x .core) t c (bearerNo k) (directionNo d) inner)
+    (omega (arith, envelope-long (x .core) t (nextAt x p) (bearerNo k) (directionNo d) inner))
+told-passes (open5gs d k m out) x e =
+    let s = numbersOf (call (open5gs d k m out)) in
+    let b = bearerNo k in
+    let f = directionNo d in
+    let p = placeOf d k in
+    let h : length m - 7 ≤ length out = fits-room (openRefusals x m (length out)) 6 (length out) (length m - 7) e refl in
+    told-received s x out openValues open′.Refused (openedAs x p b f m out) (plain x p b f m out) (open-answering x p b f m out) p (found x p b f m out)
+    (λ n. refl) (there 6 s refl) (there 7 s refl) (there 8 s refl)
+    (λ c. omega (arith, payload-length (x .core) c b f (drop 7 m) (ciphers (typeOf m)), length-drop 7 m))
+told-passes (sealEps inner out) x e =
+    let h : 6 + length inner ≤ length out = fits-room (sealEpsRefusals x inner (length out)) 3 (length out) (6 + length inner) e refl in
+    told-sends (numbersOf (call (sealEps inner out))) x out epsPlace (λ c. epsMessage (x .core) c inner)
+    (omega (arith, eps-sealed (x .core) (nextAt x epsPlace) inner .long))
+told-passes (openEps m out) x e =
+    let s = numbersOf (call (openEps m out)) in
+    let h : length m - 6 ≤ length out = fits-room (openEpsRefusals x m (length out)) 4 (length out) (length m - 6) e refl in
+    told-received s x out epsOpenValues eps.Refused (epsAs x m out) (λ c. drop 6 m) (eps-answering x m out) epsPlace (epsFound x m out)
+    (λ n. refl) (there 6 s refl) (there 7 s refl) (there 8 s refl) (λ c. omega (arith, length-drop 6 m))
+told-passes makeN1ToS1 x e = record { answers = inl refl; kept = λ a b. absurd (a refl); behind = refl; room = refl }
+told-passes (verifyN1ToS1 n) x e =
+    let s = numbersOf (call (verifyN1ToS1 n)) in told-octet s x n (octetFound x n) (there 6 s refl) (octet-not-wrong x n)
+told-passes (makeS1ToN1 ncc ngksi out) x e =
+    let h : 8 ≤ length out = fits-room (s1ToN1Refusals x ncc ngksi (length out)) 2 (length out) 8 e refl in
+    told-sends (numbersOf (call (makeS1ToN1 ncc ngksi out))) x out containerPlace (λ c. s1ToN1 (x .core) ncc ngksi) (omega (arith, s1-long x ncc ngksi))
+told-passes (verifyS1ToN1 v) x e = told-sends (numbersOf (call (verifyS1ToN1 v))) x [] containerPlace (λ c. []) (omega arith)
+
+told : (k : Call) (x : Context) → Told (numbersOf (call k)) x (lent k) (gives k x)
+told k x = go (eqb (refusalOf k x) 0) refl
+  where
+    go : (t : Bool) → eqb (refusalOf k x) 0 ≡ t → Told (numbersOf (call k)) x (lent k) (gives k x)
+    go true e = let z = eqb-true (refusalOf k x) 0 e in rw (gives-passed k x z) (told-passes k x z)
+    go false e =
+        let n = eqb-false (refusalOf k x) 0 e in
+        rw (gives-refused k x n) (told-alone (numbersOf (call k)) x (lent k) (refusalOf k x) (refusal-listed k x n))
+
+told-reselect : (x : Context) (i c : ℕ) (ik ck : List ℕ) → Told (13 ∷ 14 ∷ 16 ∷ []) x [] (givesAny (reselect i c ik ck) x)
+unfolding reselectOf
+told-reselect x i c ik ck = go (eqb (first (faultOf x ∷ 13 when unbuilt i c ∷ [])) 0) refl
+  where
+    go : (t : Bool) → eqb (first (faultOf x ∷ 13 when unbuilt i c ∷ [])) 0 ≡ t
+        → Told (13 ∷ 14 ∷ 16 ∷ []) x [] (outcome changeValues (
+        cond t (leaves change.Done (record { core = coreWith i c ik ck (x .core .size); records = x .records }) [])
+        (leaves (change.Refused (first (faultOf x ∷ 13 when unbuilt i c ∷ []))) x [])))
+    go true e = record { answers = inl refl; kept = λ a b. absurd (a refl); behind = refl; room = refl }
+    go false e =
+        told-alone (13 ∷ 14 ∷ 16 ∷ []) x [] (first (faultOf x ∷ 13 when unbuilt i c ∷ []))
+        (reselect-listed x i c (eqb-false (first (faultOf x ∷ 13 when unbuilt i c ∷ [])) 0 e))
+
+told-any : (k : Any) (x : Context) → Told (numbersOf k) x (lentAny k) (givesAny k x)
+told-any (call k) x = told k x
+told-any (reselect i c ik ck) x = told-reselect x i c ik ck
+
+fault-told : (k : Any) (x : Context) → (faultOf x ≡ 0 → ⊥) → givesAny k x .values ≡ refusal (faultOf x)
+unfolding reselectOf
+fault-told (call k) x f =
+    let e = fault-first k x f in rw (gives-refused k x (λ z. f (sym e ∙ z))) (ap refusal e)
+fault-told (reselect i c ik ck) x f = simp (ne-eqb (faultOf x) 0 f)
+
+pub demand1 : (k : Any) (x : Context) → Demand1 k x
+demand1 k x =
+    let t = told-any k x in
+    record { answers = t .answers; kept = t .kept; behind = t .behind; room = t .room; fault = fault-told k x }
+
+-- what an open call hands over
+module _ {A : Type 0} (v : A → Values) (no′ yes′ : ℕ → A) (plain-of : ℕ → List ℕ) (a : Answering v no′ yes′ plain-of) (alike : (n : ℕ) → v (no′ n) ≡ refusal n)
+    (x : Context) (p : ℕ) (out : List ℕ) where
+  not-opened : {B : Type 0} (n : ℕ) → (n ≡ 0 → ⊥) → (n ≡ 8 → ⊥) → (v (no′ n) .number ≡ 0) ⊎ (v (no′ n) .number ≡ 8) → B
+  not-opened n f g (inl e) = absurd (f (sym (ap (λ (w : Values). w .number) (alike n)) ∙ e))
+  not-opened n f g (inr e) = absurd (g (sym (ap (λ (w : Values). w .number) (alike n)) ∙ e))
+
+  used-is : (c : ℕ) → HandsOver x p plain-of out (record { values = v (yes′ c); context = used x p c; output = over (plain-of c) out })
+  used-is c = record { uses = a .uses c; context = inl (rw (a .count c)); wrote = rw (a .count c) (a .wrote c); output = rw (a .count c) }
+
+  late-is : (c : ℕ) → HandsOver x p plain-of out (record { values = v (yes′ c); context = usedLate x p c; output = over (plain-of c) out })
+  late-is c = record { uses = a .uses c; context = inr (rw (a .count c)); wrote = rw (a .count c) (a .wrote c); output = rw (a .count c) }
+
+  hands : (o : Opening) → Opened (left v no′ yes′ plain-of a x p out o) → HandsOver x p plain-of out (left v no′ yes′ plain-of a x p out o)
+  hands None h = not-opened 6 (λ e. omega arith) (λ e. omega arith) h
+  hands Wrong h = not-opened 7 (λ e. omega arith) (λ e. omega arith) h
+  hands (Late c) h = late-is c
+  hands (Forward c) h = used-is c
+
+-- an outcome of 0 or 8 was not refused before
+pub opened-passed : (k : Call) (x : Context) → Opened (gives k x) → refusalOf k x ≡ 0
+opened-passed k x h = go (eqb (refusalOf k x) 0) refl
+  where
+    clash : (refusalOf k x ≡ 0 → ⊥) → Opened (alone (refusalOf k x) x (lent k)) → ⊥
+    clash n (inl e) = n e
+    clash n (inr e) = refusal-not-8 k x n e
+
+    go : (t : Bool) → eqb (refusalOf k x) 0 ≡ t → refusalOf k x ≡ 0
+    go true e = eqb-true (refusalOf k x) 0 e
+    go false e =
+        let n = eqb-false (refusalOf k x) 0 e in absurd (clash n (subst Opened (gives-refused k x n) h))
+
+-- the COUNT answered is the one used
+module _ (x : Context) where
+  abbrev UsedAs : ℕ → Type 0 → Outcome → Type 0
+  UsedAs p L o =
+      o .values .uses ≡ true → (o .context ≡ used x p (o .values .count)) ⊎ (L × (o .context ≡ usedLate x p (o .values .count)))
+
+  sent-uses : (p : ℕ) (L : Type 0) (made : ℕ → List ℕ) (out : List ℕ) → UsedAs p L (sends x p made out)
+  unfolding useNext
+  sent-uses p L made out u = inl refl
+
+  received-uses : {A : Type 0} (v : A → Values) (no′ yes′ : ℕ → A) (plain-of : ℕ → List ℕ) (a : Answering v no′ yes′ plain-of) (p : ℕ) (out : List ℕ) (o : Opening)
+      → UsedAs p (Unit {0}) (left v no′ yes′ plain-of a x p out o)
+  received-uses v no′ yes′ plain-of a p out None u = let z : _≡_ {A = ℕ} 0 1 = cc (a .refuses 6) in absurd (omega arith)
+  received-uses v no′ yes′ plain-of a p out Wrong u = let z : _≡_ {A = ℕ} 0 1 = cc (a .refuses 7) in absurd (omega arith)
+  received-uses v no′ yes′ plain-of a p out (Late c) u = inr (tt, rw (a .count c))
+  received-uses v no′ yes′ plain-of a p out (Forward c) u = inl (rw (a .count c))
+
+  octet-uses : (n : ℕ) (o : Opening) → ((c : ℕ) → o ≡ Late c → ⊥)
+      → UsedAs containerPlace ⊥ (outcome useValues (received x containerPlace (octetRefused x n) (octetUsed x n) o))
+  octet-uses n None never u = let z : _≡_ {A = ℕ} 0 1 = cc in absurd (omega arith)
+  octet-uses n Wrong never u = let z : _≡_ {A = ℕ} 0 1 = cc in absurd (omega arith)
+  octet-uses n (Late c) never u = absurd (never c refl)
+  octet-uses n (Forward c) never u = inl refl
+
+  octet-never-late : (n c : ℕ) → octetFound x n ≡ Late c → ⊥
+  unfolding forwardOnly
+  octet-never-late n c e = never (answers (λ c′. true) Nothing (forwardOf 8 (wraps (x .core)) (recordAt x containerPlace) n) (Late c) .0 e .0)
+
+  passes-uses : (k : Call) → UsedAs (placeIn k) (MayBeLate k) (passes k x)
+  unfolding opened handed epsOpened epsHanded
+  passes-uses (setWindow n) u = let z : _≡_ {A = ℕ} 0 1 = cc in absurd (omega arith)
+  passes-uses (seal5gs t d k inner out) u = sent-uses (placeOf d k) ⊥ (λ c. envelope (x .core) t c (bearerNo k) (directionNo d) inner) out u
+  passes-uses (sealOpaque t d k inner out) u = sent-uses (placeOf d k) ⊥ (λ c. envelope (x .core) t c (bearerNo k) (directionNo d) inner) out u
+  passes-uses (open5gs d k m out) u =
+      let b = bearerNo k in let f = directionNo d in let p = placeOf d k in
+      received-uses openValues open′.Refused (openedAs x p b f m out) (plain x p b f m out) (open-answering x p b f m out) p out (found x p b f m out) u
+  passes-uses (sealEps inner out) u = sent-uses epsPlace ⊥ (λ c. epsMessage (x .core) c inner) out u
+  passes-uses (openEps m out) u =
+      received-uses epsOpenValues eps.Refused (epsAs x m out) (λ c. drop 6 m) (eps-answering x m out) epsPlace out (epsFound x m out) u
+  passes-uses makeN1ToS1 u = inl refl
+  passes-uses (verifyN1ToS1 n) u = octet-uses n (octetFound x n) (octet-never-late n) u
+  passes-uses (makeS1ToN1 ncc ngksi out) u = sent-uses containerPlace ⊥ (λ c. s1ToN1 (x .core) ncc ngksi) out u
+  passes-uses (verifyS1ToN1 v) u = sent-uses containerPlace ⊥ (λ c. []) [] u
+
+  pub demand1-uses : (k : Call) → Demand1Uses k x
+  demand1-uses k u =
+      let e = gives-passed k x (uses-passed k x u) in
+      subst (UsedAs (placeIn k) (MayBeLate k)) (sym e) (passes-uses k) u
+
+-- what a 5GS open tells beside
+module _ (x : Context) (p b d : ℕ) (m out : List ℕ) where
+  abbrev valuesAs : ℕ → Values
+  valuesAs c = openValues (openedAs x p b d m out c)
+
+  abbrev openLeft : Opening → Outcome
+  openLeft o = left openValues open′.Refused (openedAs x p b d m out) (plain x p b d m out) (open-answering x p b d m out) x p out o
+
+  tells-as : (c : ℕ) → (valuesAs c .header ≡ typeOf m) × (valuesAs c .carried ≡ look x p b d m out c)
+  tells-as c = go (eqb (look x p b d m out c) 0) refl
+    where
+      go : (t : Bool) → eqb (look x p b d m out c) 0 ≡ t
+          → let w = openValues (
+          cond t (open′.Accepted c (length (plain x p b d m out c)) (typeOf m))
+          (open′.Content c (length (plain x p b d m out c)) (typeOf m) (look x p b d m out c))) in
+          (w .header ≡ typeOf m) × (w .carried ≡ look x p b d m out c)
+      go true e = (refl, sym (eqb-true (look x p b d m out c) 0 e))
+      go false e = (refl, refl)
+
+  content-as : (c : ℕ) → valuesAs c .number ≡ 8 → In (valuesAs c .carried) (9 ∷ 10 ∷ 11 ∷ [])
+  content-as c = go (eqb (look x p b d m out c) 0) refl
+    where
+      listed : (eqb (look x p b d m out c) 0 ≡ false) → Among (9 ∷ 10 ∷ 11 ∷ []) (look x p b d m out c) → In (look x p b d m out c) (9 ∷ 10 ∷ 11 ∷ [])
+      listed e (inl z) = absurd (eqb-false (look x p b d m out c) 0 e z)
+      listed e (inr h) = h
+
+      go : (t : Bool) → eqb (look x p b d m out c) 0 ≡ t
+          → let w = openValues (
+          cond t (open′.Accepted c (length (plain x p b d m out c)) (typeOf m))
+          (open′.Content c (length (plain x p b d m out c)) (typeOf m) (look x p b d m out c))) in
+          w .number ≡ 8 → In (w .carried) (9 ∷ 10 ∷ 11 ∷ [])
+      go true e h = absurd (omega arith)
+      go false e h = listed e (look-listed (typeOf m) d (plain x p b d m out c))
+
+  tells-left : (o : Opening) → Opened (openLeft o)
+      → (openLeft o .values .header ≡ typeOf m) × (openLeft o .values .carried ≡ lookOf (typeOf m) d (plain x p b d m out (openLeft o .values .count)))
+  tells-left None (inl h) = absurd (omega arith)
+  tells-left None (inr h) = absurd (omega arith)
+  tells-left Wrong (inl h) = absurd (omega arith)
+  tells-left Wrong (inr h) = absurd (omega arith)
+  tells-left (Late c) h = rw (open-answering x p b d m out .count c) (tells-as c)
+  tells-left (Forward c) h = rw (open-answering x p b d m out .count c) (tells-as c)
+
+  carries-left : (o : Opening) → openLeft o .values .number ≡ 8 → In (openLeft o .values .carried) (9 ∷ 10 ∷ 11 ∷ [])
+  carries-left None h = absurd (omega arith)
+  carries-left Wrong h = absurd (omega arith)
+  carries-left (Late c) h = content-as c h
+  carries-left (Forward c) h = content-as c h
+
+eps-carries : (x : Context) (m out : List ℕ) (o : Opening)
+    → let w = left epsOpenValues eps.Refused (epsAs x m out) (λ c. drop 6 m) (eps-answering x m out) x epsPlace out o .values in w .number ≡ 8 → w .carried ≡ 12
+eps-carries x m out None h = absurd (omega arith)
+eps-carries x m out Wrong h = absurd (omega arith)
+eps-carries x m out (Late c) h = go (notEps (drop 6 m)) h
+  where
+    go : (t : Bool) → let w = epsOpenValues (cond t (eps.Content c (length (drop 6 m)) 12) (eps.Accepted c (length (drop 6 m)))) in w .number ≡ 8 → w .carried ≡ 12
+    go true e = refl
+    go false e = absurd (omega arith)
+eps-carries x m out (Forward c) h = go (notEps (drop 6 m)) h
+  where
+    go : (t : Bool) → let w = epsOpenValues (cond t (eps.Content c (length (drop 6 m)) 12) (eps.Accepted c (length (drop 6 m)))) in w .number ≡ 8 → w .carried ≡ 12
+    go true e = refl
+    go false e = absurd (omega arith)
+
+module _ (x : Context) where
+  pub demand1-open : Demand1Open x
+  demand1-open =
+      record {
+        opens = λ d k m out h.
+            let b = bearerNo k in let f = directionNo d in let p = placeOf d k in
+            let e = open-left x d k m out (opened-passed (open5gs d k m out) x h) in
+            rw e (hands openValues open′.Refused (openedAs x p b f m out) (plain x p b f m out) (open-answering x p b f m out) (λ n. refl) x p out (found x p b f m out)
+            (subst Opened e h));
+        tells = λ d k m out h.
+            let b = bearerNo k in let f = directionNo d in let p = placeOf d k in
+            let e = open-left x d k m out (opened-passed (open5gs d k m out) x h) in
+            rw e (tells-left x p b f m out (found x p b f m out) (subst Opened e h));
+        carries = λ d k m out h.
+            let b = bearerNo k in let f = directionNo d in let p = placeOf d k in
+            let e = open-left x d k m out (opened-passed (open5gs d k m out) x (inr h)) in
+            rw e (carries-left x p b f m out (found x p b f m out) (rw e at h));
+        opens-eps = λ m out h.
+            let e = eps-left x m out (opened-passed (openEps m out) x h) in
+            rw e (hands epsOpenValues eps.Refused (epsAs x m out) (λ c. drop 6 m) (eps-answering x m out) (λ n. refl) x epsPlace out (epsFound x m out) (subst Opened e h));
+        carries-eps = λ m out h.
+            let e = eps-left x m out (opened-passed (openEps m out) x (inr h)) in
+            rw e (eps-carries x m out (epsFound x m out) (rw e at h));
+      }
+
+-- creation and restore
+refused-fault : faultOf refusedContext ≡ 13
+unfolding faultOf coreFault unbuilt isBuilt
+refused-fault = refl
+
+create-told : (i c : ℕ) (ik ck : List ℕ) → let o = makes (create i c ik ck) in
+    (o .values ≡ refusal 0) ⊎ ((o .values ≡ refusal 13) × (o .context ≡ refusedContext))
+unfolding newOf
+create-told i c ik ck = go (unbuilt i c)
+  where
+    go : (t : Bool) →
+        let n = first (13 when t ∷ []) in
+        let o = outcome changeValues (refusedOr n (λ j. leaves (change.Refused j) refusedContext []) (leaves change.Done (contextWith i c ik ck (replicate 4 0)) [])) in
+        (o .values ≡ refusal 0) ⊎ ((o .values ≡ refusal 13) × (o .context ≡ refusedContext))
+    go true = inr (refl, refl)
+    go false = inl refl
+
+restore-told : (i c : ℕ) (ik ck next : List ℕ) → let o = makes (restore i c ik ck next) in
+    (o .values ≡ refusal 0) ⊎ (((o .values ≡ refusal 13) ⊎ (o .values ≡ refusal 16)) × (o .context ≡ refusedContext))
+unfolding restoreOf
+restore-told i c ik ck next = go (unbuilt i c) (anyOver (four (λ p. getD next p 0)))
+  where
+    go : (t s : Bool) →
+        let n = first (13 when t ∷ 16 when s ∷ []) in
+        let o = outcome changeValues (refusedOr n (λ j. leaves (change.Refused j) refusedContext []) (leaves change.Done (contextWith i c ik ck next) [])) in
+        (o .values ≡ refusal 0) ⊎ (((o .values ≡ refusal 13) ⊎ (o .values ≡ refusal 16)) × (o .context ≡ refusedContext))
+    go true s = inr (inl refl, refl)
+    go false true = inr (inr refl, refl)
+    go false false = inl refl
+
+pub demand1-making : Demand1Making
+demand1-making =
+    record {
+      created = λ i c ik ck. create-told i c ik ck;
+      restored = λ i c ik ck next. restore-told i c ik ck next;
+      refuses = λ k.
+          let e = refused-fault in
+          fault-told k refusedContext (λ z. omega arith) ∙ ap refusal e;
+    }

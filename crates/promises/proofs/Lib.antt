@@ -1,0 +1,14 @@
+pub mod Shapes
+pub mod Passing
+pub mod Numbers
+pub mod Soundness
+pub mod Opening
+pub mod Taking
+pub mod Faults
+pub mod Demand1
+pub mod Demand2
+pub mod Containers
+pub mod Demand3
+pub mod Null
+pub mod Isolation
+pub mod Tightness

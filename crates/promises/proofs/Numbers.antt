@@ -1,0 +1,217 @@
+-- Which numbers a call's refusals can have.
+use Prim.Native.Nat.{ℕ, _+_, _-_}
+use mathlib.Core.Path.{_≡_, refl, subst}
+use mathlib.Core.Bool.{Bool, true, false, cond, not, _||_, _&&_}
+use mathlib.Core.Logic.{_⊎_, inl, inr}
+use mathlib.Core.List.{List, [], _∷_}
+use native.Mathlib.Omega.{arith}
+use lib.ListN.{length, getD}
+use lib.Dec.{eqb, ltb, leb}
+use borrow.Author.Tests.{eqb-true, eq-eqb, ne-eqb}
+use Rattle.count.specs.Rule.{exhausted}
+use Rattle.count.specs.Run.{In}
+use Rattle.refusals.specs.Order.{_when_, first}
+use Rattle.nas_core.specs.Refusals.{limit, unbuilt, coreFault, sendRefusals, handRefusals}
+use Rattle.nas_core.specs.Verify.{fits}
+use Rattle.look.specs.Look.{notKnown, notTogether, wrongWay, lookRefusals, lookOf}
+use Rattle.nas_5gs.specs.declared.Context.{Context}
+use Rattle.nas_5gs.specs.Places.{directionNo, placeOf, four, nextAt, anyOver, faultOf}
+use Rattle.nas_5gs.specs.Envelope.{wrongType}
+use Rattle.nas_5gs.specs.Seal.{sealRefusals, sealRefusal, opaqueRefusals, opaqueRefusal}
+use Rattle.nas_5gs.specs.Open.{typeOf, openRefusals, openRefusal}
+use Rattle.nas_5gs.specs.Eps.{epsPlace, notEps, sealEpsRefusals, sealEpsRefusal, openEpsRefusals, openEpsRefusal}
+use Rattle.nas_5gs.specs.Containers.{containerBearer, containerDirection, noneLeft, s1Count, s1ToN1Refusals, s1ToN1Refusal, otherAlgorithms, verifyS1ToN1Refusals, verifyS1ToN1Refusal}
+use Rattle.promises.specs.Calls.{Call, setWindow, seal5gs, sealOpaque, open5gs, sealEps, openEps, makeN1ToS1, verifyN1ToS1, makeS1ToN1, verifyS1ToN1, call}
+use Rattle.promises.specs.Demand1.{numbersOf}
+use Rattle.promises.proofs.Shapes.{refusalOf}
+
+-- a number stands in a list, by computing
+abbrev isIn : ℕ → List ℕ → Bool
+isIn n [] = false
+isIn n (a ∷ l) = eqb n a || isIn n l
+
+or-either : (n a : ℕ) (b : Bool) → eqb n a || b ≡ true → (n ≡ a) ⊎ (b ≡ true)
+or-either n a b e = go (eqb n a) refl e
+  where
+    go : (t : Bool) → eqb n a ≡ t → t || b ≡ true → (n ≡ a) ⊎ (b ≡ true)
+    go true q h = inl (eqb-true n a q)
+    go false q h = inr h
+
+or-right : (t b : Bool) → b ≡ true → t || b ≡ true
+or-right true b e = refl
+or-right false b e = e
+
+pub there : (n : ℕ) (l : List ℕ) → isIn n l ≡ true → In n l
+there n [] e = let z : _≡_ {A = ℕ} 0 1 = cc in absurd (omega arith)
+there n (a ∷ l) e = elim (or-either n a (isIn n l) e) [ inl q ↦ inl q | inr h ↦ inr (there n l h) ]
+
+is-in : (n : ℕ) (l : List ℕ) → In n l → isIn n l ≡ true
+is-in n (a ∷ l) (inl e) = simp (eq-eqb n a e)
+is-in n (a ∷ l) (inr h) = or-right (eqb n a) (isIn n l) (is-in n l h)
+
+pub not-there : (n : ℕ) (l : List ℕ) → isIn n l ≡ false → In n l → ⊥
+not-there n l e h = let z : _≡_ {A = ℕ} 0 1 = cc (is-in n l h) in omega arith
+
+-- 0, or one of some numbers
+abbrev pub Among : List ℕ → ℕ → Type 0
+Among s n = (n ≡ 0) ⊎ In n s
+
+infixr 20 _&_
+data Each (s : List ℕ) : List ℕ → Type 0 where
+  none : Each s []
+  _&_ : {n : ℕ} {l : List ℕ} → Among s n → Each s l → Each s (n ∷ l)
+
+either : (s : List ℕ) (n m : ℕ) (t : Bool) → Among s n → Among s m → Among s (cond t m n)
+either s n m true a b = b
+either s n m false a b = a
+
+first-among : (s l : List ℕ) → Each s l → Among s (first l)
+first-among s [] h = inl refl
+first-among s (n ∷ l) (a & h) = either s n (first l) (eqb n 0) a (first-among s l h)
+
+module _ (s : List ℕ) where
+  may : (n : ℕ) (t : Bool) → isIn n s ≡ true → Among s (n when t)
+  may n true e = inr (there n s e)
+  may n false e = inl refl
+
+  fault-among : (x : Context) → isIn 13 s ≡ true → isIn 14 s ≡ true → isIn 16 s ≡ true → Among s (faultOf x)
+  unfolding faultOf coreFault
+  fault-among x a b c =
+      first-among s (coreFault (x .core) ∷ 16 when anyOver (four (nextAt x)) ∷ []) (
+      first-among s (13 when unbuilt (x .core .integrity) (x .core .ciphering) ∷ 14 when (ltb 64 (x .core .size)) ∷ []) (
+      may 13 (unbuilt (x .core .integrity) (x .core .ciphering)) a & may 14 (ltb 64 (x .core .size)) b & none) &
+      may 16 (anyOver (four (nextAt x))) c & none)
+
+  send-each : (header n room next : ℕ) → isIn 4 s ≡ true → isIn 5 s ≡ true → isIn 6 s ≡ true → Each s (sendRefusals header n room next)
+  send-each header n room next a b c = (may 4 (ltb limit n) a & may 5 (ltb room (header + n)) b & may 6 (leb exhausted next) c & none)
+
+  hand-each : (header n room : ℕ) → isIn 4 s ≡ true → isIn 5 s ≡ true → Each s (handRefusals header n room)
+  hand-each header n room a b = (may 4 (ltb limit (n - header)) a & may 5 (ltb room (n - header)) b & none)
+
+-- the numbers of the refusals before the code is looked at
+abbrev pub early : Call → List ℕ
+early (setWindow n) = 13 ∷ 14 ∷ 16 ∷ []
+early (seal5gs t d k inner out) = 13 ∷ 14 ∷ 16 ∷ 9 ∷ 3 ∷ 10 ∷ 11 ∷ 4 ∷ 5 ∷ 6 ∷ []
+early (sealOpaque t d k inner out) = 13 ∷ 14 ∷ 16 ∷ 3 ∷ 4 ∷ 5 ∷ 6 ∷ []
+early (open5gs d k m out) = 13 ∷ 14 ∷ 16 ∷ 1 ∷ 2 ∷ 3 ∷ 4 ∷ 5 ∷ []
+early (sealEps inner out) = 13 ∷ 14 ∷ 16 ∷ 12 ∷ 4 ∷ 5 ∷ 6 ∷ []
+early (openEps m out) = 13 ∷ 14 ∷ 16 ∷ 1 ∷ 2 ∷ 4 ∷ 5 ∷ []
+early makeN1ToS1 = 13 ∷ 14 ∷ 16 ∷ 6 ∷ []
+early (verifyN1ToS1 s) = 13 ∷ 14 ∷ 16 ∷ []
+early (makeS1ToN1 ncc ngksi out) = 13 ∷ 14 ∷ 16 ∷ 5 ∷ 6 ∷ []
+early (verifyS1ToN1 v) = 13 ∷ 14 ∷ 16 ∷ 1 ∷ 4 ∷ 15 ∷ 6 ∷ 7 ∷ []
+
+pub refusal-early : (k : Call) (x : Context) → Among (early k) (refusalOf k x)
+unfolding sealRefusal opaqueRefusal openRefusal sealEpsRefusal openEpsRefusal s1ToN1Refusal verifyS1ToN1Refusal
+refusal-early (setWindow n) x =
+    let s = early (setWindow n) in
+    first-among s (faultOf x ∷ 14 when (ltb 64 n) ∷ []) (fault-among s x refl refl refl & may s 14 (ltb 64 n) refl & none)
+refusal-early (seal5gs t d k inner out) x =
+    let s = early (seal5gs t d k inner out) in
+    let e = directionNo d in
+    first-among s (sealRefusals x t (placeOf d k) e inner (length out)) (
+    fault-among s x refl refl refl & may s 9 (notKnown inner) refl & may s 3 (wrongType t) refl & may s 10 (notTogether t inner) refl &
+    may s 11 (wrongWay e inner) refl & send-each s 7 (length inner) (length out) (nextAt x (placeOf d k)) refl refl refl)
+refusal-early (sealOpaque t d k inner out) x =
+    let s = early (sealOpaque t d k inner out) in
+    first-among s (opaqueRefusals x t (placeOf d k) inner (length out)) (
+    fault-among s x refl refl refl & may s 3 (wrongType t) refl & send-each s 7 (length inner) (length out) (nextAt x (placeOf d k)) refl refl refl)
+refusal-early (open5gs d k m out) x =
+    let s = early (open5gs d k m out) in
+    first-among s (openRefusals x m (length out)) (
+    fault-among s x refl refl refl & may s 1 (ltb (length m) 7) refl & may s 2 (not (eqb (getD m 0 0) 0x7E)) refl & may s 3 (wrongType (typeOf m)) refl &
+    may s 1 (eqb (length m) 7) refl & hand-each s 7 (length m) (length out) refl refl)
+refusal-early (sealEps inner out) x =
+    let s = early (sealEps inner out) in
+    first-among s (sealEpsRefusals x inner (length out)) (
+    fault-among s x refl refl refl & may s 12 (notEps inner) refl & send-each s 6 (length inner) (length out) (nextAt x epsPlace) refl refl refl)
+refusal-early (openEps m out) x =
+    let s = early (openEps m out) in
+    first-among s (openEpsRefusals x m (length out)) (
+    fault-among s x refl refl refl & may s 1 (ltb (length m) 6) refl & may s 2 (not (eqb (getD m 0 0) 0x17)) refl &
+    hand-each s 6 (length m) (length out) refl refl)
+refusal-early makeN1ToS1 x =
+    let s = early makeN1ToS1 in
+    first-among s (faultOf x ∷ 6 when noneLeft x ∷ []) (fault-among s x refl refl refl & may s 6 (noneLeft x) refl & none)
+refusal-early (verifyN1ToS1 n) x = fault-among (early (verifyN1ToS1 n)) x refl refl refl
+refusal-early (makeS1ToN1 ncc ngksi out) x =
+    let s = early (makeS1ToN1 ncc ngksi out) in
+    first-among s (s1ToN1Refusals x ncc ngksi (length out)) (
+    fault-among s x refl refl refl & may s 16 (ltb 7 ncc || ltb 15 ngksi) refl & may s 5 (ltb (length out) 8) refl & may s 6 (noneLeft x) refl & none)
+refusal-early (verifyS1ToN1 v) x =
+    let s = early (verifyS1ToN1 v) in
+    first-among s (verifyS1ToN1Refusals x v) (
+    fault-among s x refl refl refl & may s 1 (ltb (length v) 8) refl & may s 4 (ltb limit (length v)) refl & may s 15 (otherAlgorithms (x .core) v) refl &
+    may s 6 (noneLeft x) refl & may s 7 (not (fits (x .core) s1Count containerBearer containerDirection 0 v)) refl & none)
+
+-- they are numbers of the call, and none is 8
+subset : List ℕ → List ℕ → Bool
+subset [] s = true
+subset (a ∷ l) s = isIn a s && subset l s
+
+and-parts : (a b : Bool) → a && b ≡ true → (a ≡ true) × (b ≡ true)
+and-parts true b e = (refl, e)
+and-parts false b e = (e, (cc))
+
+widen : (l s : List ℕ) → subset l s ≡ true → (n : ℕ) → In n l → In n s
+unfolding subset
+widen (a ∷ l) s e n (inl q) = rw q (there a s (and-parts (isIn a s) (subset l s) e .0))
+widen (a ∷ l) s e n (inr h) = widen l s (and-parts (isIn a s) (subset l s) e .1) n h
+
+early-in : (k : Call) → (subset (early k) (numbersOf (call k)) ≡ true) × (isIn 8 (early k) ≡ false)
+unfolding subset
+early-in (setWindow n) = (refl, refl)
+early-in (seal5gs t d k inner out) = (refl, refl)
+early-in (sealOpaque t d k inner out) = (refl, refl)
+early-in (open5gs d k m out) = (refl, refl)
+early-in (sealEps inner out) = (refl, refl)
+early-in (openEps m out) = (refl, refl)
+early-in makeN1ToS1 = (refl, refl)
+early-in (verifyN1ToS1 s) = (refl, refl)
+early-in (makeS1ToN1 ncc ngksi out) = (refl, refl)
+early-in (verifyS1ToN1 v) = (refl, refl)
+
+module _ (k : Call) (x : Context) (refused : refusalOf k x ≡ 0 → ⊥) where
+  pub refusal-listed : In (refusalOf k x) (numbersOf (call k))
+  refusal-listed = go (refusal-early k x)
+    where
+      go : Among (early k) (refusalOf k x) → In (refusalOf k x) (numbersOf (call k))
+      go (inl e) = absurd (refused e)
+      go (inr h) = widen (early k) (numbersOf (call k)) (early-in k .0) (refusalOf k x) h
+
+  pub refusal-not-8 : refusalOf k x ≡ 8 → ⊥
+  refusal-not-8 e = go (refusal-early k x)
+    where
+      go : Among (early k) (refusalOf k x) → ⊥
+      go (inl z) = refused z
+      go (inr h) = not-there 8 (early k) (early-in k .1) (subst (λ (n : ℕ). In n (early k)) e h)
+
+-- a context's own refusal comes first
+pub fault-first : (k : Call) (x : Context) → (faultOf x ≡ 0 → ⊥) → refusalOf k x ≡ faultOf x
+unfolding sealRefusal opaqueRefusal openRefusal sealEpsRefusal openEpsRefusal s1ToN1Refusal verifyS1ToN1Refusal
+fault-first (setWindow n) x f = rw (ne-eqb (faultOf x) 0 f)
+fault-first (seal5gs t d k inner out) x f = rw (ne-eqb (faultOf x) 0 f)
+fault-first (sealOpaque t d k inner out) x f = rw (ne-eqb (faultOf x) 0 f)
+fault-first (open5gs d k m out) x f = rw (ne-eqb (faultOf x) 0 f)
+fault-first (sealEps inner out) x f = rw (ne-eqb (faultOf x) 0 f)
+fault-first (openEps m out) x f = rw (ne-eqb (faultOf x) 0 f)
+fault-first makeN1ToS1 x f = rw (ne-eqb (faultOf x) 0 f)
+fault-first (verifyN1ToS1 s) x f = refl
+fault-first (makeS1ToN1 ncc ngksi out) x f = rw (ne-eqb (faultOf x) 0 f)
+fault-first (verifyS1ToN1 v) x f = rw (ne-eqb (faultOf x) 0 f)
+
+pub reselect-listed : (x : Context) (i c : ℕ) → (first (faultOf x ∷ 13 when unbuilt i c ∷ []) ≡ 0 → ⊥)
+    → In (first (faultOf x ∷ 13 when unbuilt i c ∷ [])) (13 ∷ 14 ∷ 16 ∷ [])
+reselect-listed x i c f =
+    let s : List ℕ = 13 ∷ 14 ∷ 16 ∷ [] in
+    elim (first-among s (faultOf x ∷ 13 when unbuilt i c ∷ []) (fault-among s x refl refl refl & may s 13 (unbuilt i c) refl & none)) [
+      | inl e ↦ absurd (f e)
+      | inr h ↦ h
+    ]
+
+-- what 8 carries
+pub look-listed : (t d : ℕ) (m : List ℕ) → Among (9 ∷ 10 ∷ 11 ∷ []) (lookOf t d m)
+unfolding lookOf
+look-listed t d m =
+    let s : List ℕ = 9 ∷ 10 ∷ 11 ∷ [] in
+    first-among s (lookRefusals t d m) (may s 9 (notKnown m) refl & may s 10 (notTogether t m) refl & may s 11 (wrongWay d m) refl & none)

@@ -1,0 +1,95 @@
+-- Every call is a refusal or what it does once its refusals let it pass.
+use Prim.Native.Nat.{ℕ}
+use mathlib.Core.Path.{_≡_, refl, sym, ap, _∙_}
+use mathlib.Core.Bool.{Bool, true, false, cond}
+use mathlib.Core.List.{List, [], _∷_}
+use lib.Dec.{eqb}
+use native.Mathlib.Omega.{arith}
+use borrow.Author.Tests.{eqb-true, eqb-false, eq-eqb, ne-eqb}
+use Rattle.refusals.specs.Order.{refusedOr}
+use Rattle.nas_5gs.specs.declared.Context.{Context}
+use Rattle.nas_5gs.specs.declared.ChangeAnswer.the-variants as change
+use Rattle.nas_5gs.specs.declared.UseAnswer.the-variants as use′
+use Rattle.nas_5gs.specs.declared.OpenAnswer.the-variants as open′
+use Rattle.nas_5gs.specs.declared.EpsOpenAnswer.the-variants as eps
+use Rattle.nas_5gs.specs.declared.OctetAnswer.the-variants as octet
+use Rattle.nas_5gs.specs.Places.{directionNo, bearerNo, placeOf, nextAt}
+use Rattle.nas_5gs.specs.Leaves.{Leaves, leaves, useNext, received, Values, refusal, changeValues, useValues, openValues, epsOpenValues, octetValues}
+use Rattle.nas_5gs.specs.Changes.{resized, windowOf}
+use Rattle.nas_5gs.specs.Envelope.{envelope}
+use Rattle.nas_5gs.specs.Seal.{sent, sealOf, sealOpaqueOf}
+use Rattle.nas_5gs.specs.Open.{opened, openOf}
+use Rattle.nas_5gs.specs.Eps.{epsPlace, epsMessage, sealEpsOf, epsOpened, openEpsOf}
+use Rattle.nas_5gs.specs.Containers.{containerPlace, lastOctet, s1ToN1, n1ToS1Of, verifyN1ToS1Of, s1ToN1Of, verifyS1ToN1Of}
+use Rattle.promises.specs.Calls.{Call, setWindow, seal5gs, sealOpaque, open5gs, sealEps, openEps, makeN1ToS1, verifyN1ToS1, makeS1ToN1, verifyS1ToN1, Outcome, outcome, gives, lent}
+use Rattle.promises.proofs.Shapes.{refusalOf, octetFound, octetRefused, octetUsed}
+
+abbrev pub sends : Context → ℕ → (ℕ → List ℕ) → List ℕ → Outcome
+sends x p made out = outcome useValues (useNext x p made out)
+
+abbrev pub passes : Call → Context → Outcome
+passes (setWindow n) x = record { values = refusal 0; context = resized x n; output = [] }
+passes (seal5gs t d k inner out) x = sends x (placeOf d k) (λ c. envelope (x .core) t c (bearerNo k) (directionNo d) inner) out
+passes (sealOpaque t d k inner out) x = sends x (placeOf d k) (λ c. envelope (x .core) t c (bearerNo k) (directionNo d) inner) out
+passes (open5gs d k m out) x = outcome openValues (opened x (placeOf d k) (bearerNo k) (directionNo d) m out)
+passes (sealEps inner out) x = sends x epsPlace (λ c. epsMessage (x .core) c inner) out
+passes (openEps m out) x = outcome epsOpenValues (epsOpened x m out)
+passes makeN1ToS1 x = outcome octetValues (lastOctet x (nextAt x containerPlace))
+passes (verifyN1ToS1 s) x = outcome useValues (received x containerPlace (octetRefused x s) (octetUsed x s) (octetFound x s))
+passes (makeS1ToN1 ncc ngksi out) x = sends x containerPlace (λ c. s1ToN1 (x .core) ncc ngksi) out
+passes (verifyS1ToN1 v) x = sends x containerPlace (λ c. []) []
+
+-- a refusal alone
+abbrev pub alone : ℕ → Context → List ℕ → Outcome
+alone n x out = record { values = refusal n; context = x; output = out }
+
+split : {A : Type 0} (v : A → Values) (n : ℕ) (r : ℕ → Leaves A) (l : Leaves A)
+    → outcome v (refusedOr n r l) ≡ refusedOr n (λ k. outcome v (r k)) (outcome v l)
+split v n r l = go (eqb n 0)
+  where
+    go : (t : Bool) → outcome v (cond t l (r n)) ≡ cond t (outcome v l) (outcome v (r n))
+    go true = refl
+    go false = refl
+
+pub gives-is : (k : Call) (x : Context) → gives k x ≡ refusedOr (refusalOf k x) (λ n. alone n x (lent k)) (passes k x)
+unfolding windowOf sealOf sealOpaqueOf sent openOf sealEpsOf openEpsOf n1ToS1Of verifyN1ToS1Of s1ToN1Of verifyS1ToN1Of
+gives-is (setWindow n) x = split changeValues (refusalOf (setWindow n) x) (λ j. leaves (change.Refused j) x []) (leaves change.Done (resized x n) [])
+gives-is (seal5gs t d k inner out) x =
+    split useValues (refusalOf (seal5gs t d k inner out) x) (λ j. leaves (use′.Refused j) x out)
+    (useNext x (placeOf d k) (λ c. envelope (x .core) t c (bearerNo k) (directionNo d) inner) out)
+gives-is (sealOpaque t d k inner out) x =
+    split useValues (refusalOf (sealOpaque t d k inner out) x) (λ j. leaves (use′.Refused j) x out)
+    (useNext x (placeOf d k) (λ c. envelope (x .core) t c (bearerNo k) (directionNo d) inner) out)
+gives-is (open5gs d k m out) x =
+    split openValues (refusalOf (open5gs d k m out) x) (λ j. leaves (open′.Refused j) x out) (opened x (placeOf d k) (bearerNo k) (directionNo d) m out)
+gives-is (sealEps inner out) x =
+    split useValues (refusalOf (sealEps inner out) x) (λ j. leaves (use′.Refused j) x out) (useNext x epsPlace (λ c. epsMessage (x .core) c inner) out)
+gives-is (openEps m out) x = split epsOpenValues (refusalOf (openEps m out) x) (λ j. leaves (eps.Refused j) x out) (epsOpened x m out)
+gives-is makeN1ToS1 x =
+    split octetValues (refusalOf makeN1ToS1 x) (λ j. leaves (octet.Refused j) x []) (lastOctet x (nextAt x containerPlace))
+gives-is (verifyN1ToS1 s) x =
+    split useValues (refusalOf (verifyN1ToS1 s) x) (λ j. leaves (use′.Refused j) x [])
+    (received x containerPlace (octetRefused x s) (octetUsed x s) (octetFound x s))
+gives-is (makeS1ToN1 ncc ngksi out) x =
+    split useValues (refusalOf (makeS1ToN1 ncc ngksi out) x) (λ j. leaves (use′.Refused j) x out)
+    (useNext x containerPlace (λ c. s1ToN1 (x .core) ncc ngksi) out)
+gives-is (verifyS1ToN1 v) x =
+    split useValues (refusalOf (verifyS1ToN1 v) x) (λ j. leaves (use′.Refused j) x []) (useNext x containerPlace (λ c. []) [])
+
+module _ (k : Call) (x : Context) where
+  pub gives-passed : refusalOf k x ≡ 0 → gives k x ≡ passes k x
+  gives-passed e = rw (gives-is k x, eq-eqb (refusalOf k x) 0 e)
+
+  pub gives-refused : (refusalOf k x ≡ 0 → ⊥) → gives k x ≡ alone (refusalOf k x) x (lent k)
+  gives-refused n = rw (gives-is k x, ne-eqb (refusalOf k x) 0 n)
+
+-- a refused call uses no COUNT
+pub uses-passed : (k : Call) (x : Context) → gives k x .values .uses ≡ true → refusalOf k x ≡ 0
+uses-passed k x u = go (eqb (refusalOf k x) 0) refl
+  where
+    go : (t : Bool) → eqb (refusalOf k x) 0 ≡ t → refusalOf k x ≡ 0
+    go true e = eqb-true (refusalOf k x) 0 e
+    go false e =
+        let q = gives-refused k x (eqb-false (refusalOf k x) 0 e) in
+        let h : false ≡ true = sym (ap (λ (o : Outcome). o .values .uses) q) ∙ u in
+        let z : _≡_ {A = ℕ} 0 1 = cc in absurd (omega arith)

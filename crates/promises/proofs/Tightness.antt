@@ -1,0 +1,177 @@
+-- No second answer fits, and wrong contexts do not keep demand 3.
+use Prim.Native.Nat.{ℕ, _<_}
+use mathlib.Core.Path.{_≡_, refl, sym, ap, _∙_, subst}
+use mathlib.Core.Bool.{true, false}
+use mathlib.Core.Logic.{inl, inr}
+use mathlib.Core.List.{List, [], _∷_, zipWith}
+use native.Mathlib.Omega.{arith}
+use lib.ListN.{replicate}
+use Rattle.aes.specs.Field.{xTimes, times, timesBits, squares, inverse, affine, sbox}
+use Rattle.aes.specs.Cipher.{toState, fromState, subBytes, shiftRows, mixColumns, word, addRoundKey, rounds, cipher, rcon, turned, nextWord, words, expandKey}
+use Rattle.aes.specs.Counter.{counter, keystream, ctrOf}
+use Rattle.aes.specs.Nas.{head, nea2Of}
+use Rattle.algorithms.specs.Codes.{isBuilt}
+use Rattle.count.specs.Rule.{useForward, resizeOf}
+use Rattle.count.specs.Run.{State, Act, stay, uses, forward, late as lateUse, round, resize, act, used, Valid, In, NoneTwice}
+use Rattle.count.proofs.Candidates.{clash}
+use Rattle.count.proofs.Law.{to-clear}
+use Rattle.nas_core.specs.Refusals.{unbuilt}
+use Rattle.nas_core.specs.Verify.{fits}
+use Rattle.nas_5gs.specs.declared.Context.{Context}
+use Rattle.nas_5gs.specs.declared.Direction.the-variants.{Uplink}
+use Rattle.nas_5gs.specs.declared.Connection.the-variants.{ThreeGpp}
+use Rattle.nas_5gs.specs.Places.{nextAt}
+use Rattle.nas_5gs.specs.Changes.{contextWith, resized, newOf}
+use Rattle.nas_5gs.specs.Envelope.{envelope}
+use Rattle.promises.specs.Calls.{Call, setWindow, open5gs, Outcome, gives, usedBy, contextAfter, countsUsed}
+use Rattle.promises.specs.Words.{recordOf, TakenAs}
+use Rattle.promises.specs.Demand3.{Fresh, StillOpen, Opens, Keeps}
+use Rattle.promises.specs.Tightness.{OnlyOne, RefusesAll, OpensAsNext, LeavesStill, Invents, NeverLate, AsInP6, Tightness}
+use Rattle.promises.proofs.Shapes.{does, acts, same-keys}
+use Rattle.promises.proofs.Soundness.{does-valid, own-after}
+use Rattle.promises.proofs.Passing.{passes, gives-passed}
+use Rattle.promises.proofs.Taking.{no-fault}
+use Rattle.promises.proofs.Demand3.{started, good-now}
+use Rattle.promises.proofs.Opening.{envelope-sealed}
+
+pub only-one : OnlyOne
+only-one A l a a′ x x′ out out′ p q = ((cc), (cc), (cc))
+
+-- a fresh context with integrity code 2, and a message of one octet
+abbrev zeros : List ℕ
+zeros = replicate 16 0
+
+abbrev x : Context
+x = contextWith 2 0 zeros zeros (replicate 4 0)
+
+fresh : Fresh x
+unfolding newOf unbuilt isBuilt
+fresh =
+    record { integrity = 2; ciphering = 0; integrityKey = zeros; cipheringKey = zeros; made = refl; guarded = λ e. omega arith }
+
+abbrev one : List ℕ
+one = 0 ∷ []
+
+abbrev message : ℕ → List ℕ
+message c = envelope (x .core) 1 c 1 0 one
+
+abbrev opening : ℕ → Call
+opening c = open5gs Uplink ThreeGpp (message c) one
+
+module _ (G : Call → Context → Outcome) (keeps : Keeps G) where
+  opens : (ks : List Call) (c : ℕ) → c < 256
+      → Opens G 0 x ks (λ c′. fits (contextAfter G x ks .core) c′ 1 0 2 (message c) ≡ true) (G (opening c) (contextAfter G x ks)) c one one
+  opens ks c h = keeps x fresh ks .opens Uplink ThreeGpp (x .core) 1 c one one (same-keys (x .core)) (omega arith) (omega arith) (omega arith) (omega arith) (omega arith) (omega arith)
+
+  -- where nothing lies below next, a COUNT ahead is taken
+  taken : (ks : List Call) (c : ℕ) → c < 256 → nextAt (contextAfter G x ks) 0 ≡ 0 → ((c′ : ℕ) → StillOpen G 0 x ks c′ → ⊥)
+      → TakenAs (G (opening c) (contextAfter G x ks)) c one one
+  taken ks c h n none = opens ks c h .exactly .1 (inr ((omega arith, omega arith), λ c′ s q f. none c′ s))
+
+  taken-first : (c : ℕ) → c < 256 → TakenAs (G (opening c) x) c one one
+  taken-first c h = taken [] c h refl (λ c′ s. s .1)
+
+  refused : RefusesAll G → ⊥
+  refused r = clash (taken-first 0 (omega arith) .uses) (r x Uplink ThreeGpp (message 0) one)
+
+  as-next : OpensAsNext G → ⊥
+  as-next r =
+      let t = taken-first 5 (omega arith) in
+      let e = r x Uplink ThreeGpp (message 5) one (t .uses) in
+      let q = t .count in
+      let z : nextAt x 0 ≡ 0 = refl in
+      omega arith
+
+  invented : Invents G → ⊥
+  invented r =
+      let t = taken-first 0 (omega arith) in
+      let e = r x Uplink ThreeGpp (message 0) one (t .uses) in
+      clash {b = fits (x .core) 0 1 0 2 (message 0)} (envelope-sealed (x .core) 0 one 1 0 1 .own)
+      (subst (λ (c : ℕ). fits (x .core) c 1 0 2 (message 0) ≡ false) (t .count) e)
+
+  -- the COUNT 0 taken twice
+  abbrev again : List Call
+  again = opening 0 ∷ opening 0 ∷ []
+
+  used-at : (ks : List Call) (c : ℕ) → TakenAs (G (opening c) (contextAfter G x ks)) c one one
+      → usedBy (G (opening c) (contextAfter G x ks) .values) ≡ c ∷ []
+  used-at ks c t = rw (t .uses, t .count)
+
+  still : LeavesStill G → ⊥
+  still r =
+      let e : contextAfter G x (opening 0 ∷ []) ≡ x = r x Uplink ThreeGpp (message 0) one in
+      let n : nextAt (contextAfter G x (opening 0 ∷ [])) 0 ≡ 0 = ap (λ (y : Context). nextAt y 0) e in
+      let a = used-at [] 0 (taken-first 0 (omega arith)) in
+      let b = used-at (opening 0 ∷ []) 0 (taken (opening 0 ∷ []) 0 (omega arith) n (λ c s. let w = s .1 .0 .under in omega arith)) in
+      let l : countsUsed G 0 x again ≡ 0 ∷ 0 ∷ [] = rw (a, b) in
+      let t : NoneTwice (0 ∷ 0 ∷ []) = subst NoneTwice l (keeps x fresh again .once Uplink ThreeGpp) in
+      t .0 (inl refl)
+
+  -- P6: window 8, the message for COUNT 5, then the one for COUNT 3
+  abbrev p6 : List Call
+  p6 = opening 5 ∷ setWindow 8 ∷ []
+
+  late : AsInP6 G → NeverLate G → ⊥
+  late s r =
+      let w = s .sized x fresh in
+      let n : nextAt (contextAfter G x (setWindow 8 ∷ [])) 0 ≡ 0 = w .0 in
+      let t = taken (setWindow 8 ∷ []) 5 (omega arith) n (λ c h. let u = h .1 .0 .under in omega arith) in
+      let m = s .moved x fresh (message 5) one (t .uses) (t .count) in
+      let l : countsUsed G 0 x p6 ≡ 5 ∷ [] = rw (used-at (setWindow 8 ∷ []) 5 t) in
+      let unused : In 3 (countsUsed G 0 x p6) → ⊥ = λ i. not-five (subst (In 3) l i) in
+      let e = opens p6 3 (omega arith) .exactly .1 (inl (unused, (record { under = omega arith; near = omega arith }, inl (omega arith, omega arith)))) in
+      let q = r (contextAfter G x p6) Uplink ThreeGpp (message 3) one (e .uses) in
+      omega (arith, e .count, m .0)
+    where
+      not-five : In 3 (5 ∷ []) → ⊥
+      not-five (inl h) = omega arith
+
+-- the calls themselves are as in P6
+window-set : (x : Context) → Fresh x → gives (setWindow 8) x ≡ passes (setWindow 8) x
+window-set x f =
+    let s = started x f in
+    gives-passed (setWindow 8) x (simp (no-fault x (s .ok .built) (s .ok .small) (s .ok .counts)))
+
+sized : (x : Context) → Fresh x → let y = gives (setWindow 8) x .context in (nextAt y 0 ≡ 0) × (y .core .size ≡ 8)
+unfolding resized resizeOf
+sized x f = rw (window-set x f) (started x f .zeros 0 (omega arith), refl)
+
+used-five : (a : Act) (s : State) → Valid a s → used a ≡ 5 ∷ [] → s .at .next ≡ 0 → (act a s .at .next ≡ 6) × (act a s .size ≡ s .size)
+unfolding useForward
+used-five stay s v e n = let z : _≡_ {A = ℕ} 0 1 = cc in absurd (omega arith)
+used-five (uses forward c) s v e n = let q : c ≡ 5 = cc in (omega arith, refl)
+used-five (uses lateUse c) s v e n = let w = to-clear s c v .within .under in absurd (omega arith)
+used-five (uses round c) s v e n = absurd v
+used-five (resize m) s v e n = let z : _≡_ {A = ℕ} 0 1 = cc in absurd (omega arith)
+
+moved : (x : Context) → Fresh x → (m out : List ℕ)
+    → let o = gives (open5gs Uplink ThreeGpp m out) (gives (setWindow 8) x .context) in
+    o .values .uses ≡ true → o .values .count ≡ 5 → (nextAt (o .context) 0 ≡ 6) × (o .context .core .size ≡ 8)
+moved x f m out u e =
+    let y = gives (setWindow 8) x .context in
+    let k = open5gs Uplink ThreeGpp m out in
+    let s = started x f in
+    let g = good-now x (s .good) (s .ok) (setWindow 8 ∷ []) in
+    let w = sized x f in
+    let c : used (does k y) ≡ 5 ∷ [] = sym (acts k y (g .four) .counts) ∙ rw (u, e) in
+    let t = used-five (does k y) (recordOf 0 y) (does-valid y (g .guarded) k) c (w .0) in
+    (ap (λ (z : State). z .at .next) (own-after k y (g .four) (omega arith)) ∙ t .0, acts k y (g .four) .size-after ∙ t .1 ∙ w .1)
+
+-- NEA2 changes an octet: AES of the zero block under the zero key begins with 66
+changes : nea2Of zeros 0 0 0 (0 ∷ []) ≡ 0x66 ∷ []
+unfolding expandKey words nextWord turned rcon word xTimes sbox affine inverse squares times timesBits zipWith cipher rounds addRoundKey mixColumns shiftRows subBytes toState fromState ctrOf keystream counter head nea2Of
+changes = refl
+
+pub tightness : Tightness
+tightness =
+    record {
+      refuses-all = λ G r k. refused G k r;
+      opens-as-next = λ G r k. as-next G k r;
+      leaves-still = λ G r k. still G k r;
+      p6 = record { sized = sized; moved = moved };
+      never-late = λ G s r k. late G k s r;
+      invents = λ G r k. invented G k r;
+      copies = λ c.
+          let e : _≡_ {A = List ℕ} (0x66 ∷ []) (0 ∷ []) = sym changes ∙ c zeros 0 0 0 (0 ∷ []) in
+          let z : _≡_ {A = ℕ} 0x66 0 = cc in omega arith;
+    }

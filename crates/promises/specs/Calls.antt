@@ -1,0 +1,120 @@
+-- Every public call with its arguments, and what it answers, hands back and leaves in the lent output: the definitions that the calls' contracts cite.
+-- (`next_count`, `window`, `integrity` and `ciphering` answer a number of the context and hand back none; nothing here is about them.)
+use Prim.Native.Nat.{ℕ}
+use mathlib.Core.Bool.{cond}
+use mathlib.Core.List.{List, [], _∷_, _++_}
+use lib.Dec.{eqb}
+use Rattle.nas_5gs.specs.declared.Context.{Context}
+use Rattle.nas_5gs.specs.declared.Direction.{Direction}
+use Rattle.nas_5gs.specs.declared.Connection.{Connection}
+use Rattle.nas_5gs.specs.Places.{placeOf}
+use Rattle.nas_5gs.specs.Leaves.{Leaves, leaves, Values, changeValues, useValues, openValues, epsOpenValues, octetValues}
+use Rattle.nas_5gs.specs.Changes.{newOf, restoreOf, reselectOf, windowOf}
+use Rattle.nas_5gs.specs.Seal.{sealOf, sealOpaqueOf}
+use Rattle.nas_5gs.specs.Open.{openOf}
+use Rattle.nas_5gs.specs.Eps.{epsPlace, sealEpsOf, openEpsOf}
+use Rattle.nas_5gs.specs.Containers.{containerPlace, n1ToS1Of, verifyN1ToS1Of, s1ToN1Of, verifyS1ToN1Of}
+
+-- The calls on a context, "any calls but restore and reselection". The last argument of those that write is the lent output as it was.
+pub data Call : Type 0 where
+  -- the new size
+  setWindow : ℕ → Call
+  -- header type, direction, connection, inner octets
+  seal5gs sealOpaque : ℕ → Direction → Connection → List ℕ → List ℕ → Call
+  -- direction, connection, message
+  open5gs : Direction → Connection → List ℕ → List ℕ → Call
+  -- inner octets; message
+  sealEps openEps : List ℕ → List ℕ → Call
+  makeN1ToS1 : Call
+  -- the octet
+  verifyN1ToS1 : ℕ → Call
+  -- NCC, ngKSI
+  makeS1ToN1 : ℕ → ℕ → List ℕ → Call
+  -- the value
+  verifyS1ToN1 : List ℕ → Call
+
+-- The calls that make a context: codes for integrity and ciphering, their keys, and the four next COUNTs to restore.
+pub data Making : Type 0 where
+  create : ℕ → ℕ → List ℕ → List ℕ → Making
+  restore : ℕ → ℕ → List ℕ → List ℕ → List ℕ → Making
+
+-- Every call on a context: those, and reselection with new codes and keys.
+pub data Any : Type 0 where
+  call : Call → Any
+  reselect : ℕ → ℕ → List ℕ → List ℕ → Any
+
+-- document 01's values of the answer, the context, and the lent output: no octets where none is lent
+pub record Outcome : Type 0 where
+  pub values : Values
+  pub context : Context
+  pub output : List ℕ
+
+abbrev pub outcome : {A : Type 0} → (A → Values) → Leaves A → Outcome
+outcome valuesOf (leaves a x out) = record { values = valuesOf a; context = x; output = out }
+
+abbrev pub gives : Call → Context → Outcome
+gives (setWindow n) x = outcome changeValues (windowOf x n)
+gives (seal5gs t d k inner out) x = outcome useValues (sealOf x t d k inner out)
+gives (sealOpaque t d k inner out) x = outcome useValues (sealOpaqueOf x t d k inner out)
+gives (open5gs d k m out) x = outcome openValues (openOf x d k m out)
+gives (sealEps inner out) x = outcome useValues (sealEpsOf x inner out)
+gives (openEps m out) x = outcome epsOpenValues (openEpsOf x m out)
+gives makeN1ToS1 x = outcome octetValues (n1ToS1Of x)
+gives (verifyN1ToS1 s) x = outcome useValues (verifyN1ToS1Of x s)
+gives (makeS1ToN1 ncc ngksi out) x = outcome useValues (s1ToN1Of x ncc ngksi out)
+gives (verifyS1ToN1 v) x = outcome useValues (verifyS1ToN1Of x v)
+
+abbrev pub givesAny : Any → Context → Outcome
+givesAny (call k) x = gives k x
+givesAny (reselect i c ik ck) x = outcome changeValues (reselectOf x i c ik ck)
+
+abbrev pub makes : Making → Outcome
+makes (create i c ik ck) = outcome changeValues (newOf i c ik ck)
+makes (restore i c ik ck next) = outcome changeValues (restoreOf i c ik ck next)
+
+-- the output that is lent
+abbrev pub lent : Call → List ℕ
+lent (setWindow n) = []
+lent (seal5gs t d k inner out) = out
+lent (sealOpaque t d k inner out) = out
+lent (open5gs d k m out) = out
+lent (sealEps inner out) = out
+lent (openEps m out) = out
+lent makeN1ToS1 = []
+lent (verifyN1ToS1 s) = []
+lent (makeS1ToN1 ncc ngksi out) = out
+lent (verifyS1ToN1 v) = []
+
+abbrev pub lentAny : Any → List ℕ
+lentAny (call k) = lent k
+lentAny (reselect i c ik ck) = []
+
+-- The place of the record that a call works on: 0 to 3, and 4, no record, for the window size, which is of all four.
+abbrev pub placeIn : Call → ℕ
+placeIn (setWindow n) = 4
+placeIn (seal5gs t d k inner out) = placeOf d k
+placeIn (sealOpaque t d k inner out) = placeOf d k
+placeIn (open5gs d k m out) = placeOf d k
+placeIn (sealEps inner out) = epsPlace
+placeIn (openEps m out) = epsPlace
+placeIn makeN1ToS1 = containerPlace
+placeIn (verifyN1ToS1 s) = containerPlace
+placeIn (makeS1ToN1 ncc ngksi out) = containerPlace
+placeIn (verifyS1ToN1 v) = containerPlace
+
+-- the COUNT that an answer says was used, if one was
+abbrev pub usedBy : Values → List ℕ
+usedBy v = cond (v .uses) (v .count ∷ []) []
+
+-- Any calls, whatever gives their outcomes: `gives`, or that of a wrong context.
+module _ (G : Call → Context → Outcome) where
+  -- "each on the context that the last one gave back": the last call stands first in the list
+  abbrev pub contextAfter : Context → List Call → Context
+  contextAfter x [] = x
+  contextAfter x (k ∷ ks) = G k (contextAfter x ks) .context
+
+  -- the COUNTs that the answers of the calls on the record at p say were used, the last one first
+  abbrev pub countsUsed : ℕ → Context → List Call → List ℕ
+  countsUsed p x [] = []
+  countsUsed p x (k ∷ ks) =
+      cond (eqb p (placeIn k)) (usedBy (G k (contextAfter x ks) .values)) [] ++ countsUsed p x ks

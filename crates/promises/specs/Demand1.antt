@@ -1,0 +1,108 @@
+-- Demand 1: "Any bytes, any context, any buffer: every call ends with an answer. Bad input gets a numbered refusal. A refusal changes neither context nor
+-- buffer, but one: a message whose code is right and whose content is refused uses its COUNT and hands over its plaintext (refusal 8)."
+-- That every call ends is in the contracts, which ask nothing of the input: each is an equation with the definition that `givesAny` or `makes` cites.
+use Prim.Native.Nat.{ℕ}
+use mathlib.Core.Path.{_≡_}
+use mathlib.Core.Bool.{true}
+use mathlib.Core.Logic.{_⊎_}
+use mathlib.Core.List.{List, [], _∷_}
+use lib.ListN.{length, drop}
+use Rattle.count.specs.Run.{In}
+use Rattle.nas_core.specs.Keyed.{payload}
+use Rattle.look.specs.Look.{lookOf}
+use Rattle.nas_5gs.specs.declared.Context.{Context}
+use Rattle.nas_5gs.specs.declared.Direction.{Direction}
+use Rattle.nas_5gs.specs.declared.Connection.{Connection}
+use Rattle.nas_5gs.specs.Places.{directionNo, bearerNo, placeOf, faultOf, used, usedLate}
+use Rattle.nas_5gs.specs.Leaves.{over, refusal}
+use Rattle.nas_5gs.specs.Changes.{refusedContext}
+use Rattle.nas_5gs.specs.Envelope.{ciphers}
+use Rattle.nas_5gs.specs.Open.{typeOf}
+use Rattle.nas_5gs.specs.Eps.{epsPlace}
+use Rattle.promises.specs.Calls.{Call, setWindow, seal5gs, sealOpaque, open5gs, sealEps, openEps, makeN1ToS1, verifyN1ToS1, makeS1ToN1, verifyS1ToN1, Any, call, reselect, create, restore, Outcome, gives, givesAny, makes, lentAny, placeIn}
+
+-- "Order, 5GS open: under 7, 2, 3, exactly 7, 4, 5, 6 or 7, 8. EPS open: 1, 2, 4, 5, 6 or 7, 8. Seal: 9, 3, 10, 11, 4, 5, 6. .."
+abbrev pub ownNumbers : Call → List ℕ
+ownNumbers (setWindow n) = 14 ∷ []
+ownNumbers (seal5gs t d k inner out) = 9 ∷ 3 ∷ 10 ∷ 11 ∷ 4 ∷ 5 ∷ 6 ∷ []
+ownNumbers (sealOpaque t d k inner out) = 3 ∷ 4 ∷ 5 ∷ 6 ∷ []
+ownNumbers (open5gs d k m out) = 1 ∷ 2 ∷ 3 ∷ 4 ∷ 5 ∷ 6 ∷ 7 ∷ 8 ∷ []
+ownNumbers (sealEps inner out) = 12 ∷ 4 ∷ 5 ∷ 6 ∷ []
+ownNumbers (openEps m out) = 1 ∷ 2 ∷ 4 ∷ 5 ∷ 6 ∷ 7 ∷ 8 ∷ []
+ownNumbers makeN1ToS1 = 6 ∷ []
+ownNumbers (verifyN1ToS1 s) = 6 ∷ []
+ownNumbers (makeS1ToN1 ncc ngksi out) = 16 ∷ 5 ∷ 6 ∷ []
+ownNumbers (verifyS1ToN1 v) = 1 ∷ 4 ∷ 15 ∷ 6 ∷ 7 ∷ []
+
+-- a context may get 13, 14 or 16 before all else
+abbrev pub numbersOf : Any → List ℕ
+numbersOf (call k) = 13 ∷ 14 ∷ 16 ∷ ownNumbers k
+numbersOf (reselect i c ik ck) = 13 ∷ 14 ∷ 16 ∷ []
+
+-- Of every call, on every context.
+pub record Demand1 (k : Any) (x : Context) : Type 0 where
+  -- "Bad input gets a numbered refusal"; 0 is a success
+  pub answers : (givesAny k x .values .number ≡ 0) ⊎ In (givesAny k x .values .number) (numbersOf k)
+  -- "A refusal changes neither context nor buffer, but one"; "Other refusals answer their number alone"
+  pub kept : let o = givesAny k x in
+      (o .values .number ≡ 0 → ⊥) → (o .values .number ≡ 8 → ⊥)
+      → (o .values ≡ refusal (o .values .number)) × (o .context ≡ x) × (o .output ≡ lentAny k)
+  -- "A success writes the front of the output and no octet after it"
+  pub behind : let o = givesAny k x in drop (o .values .wrote) (o .output) ≡ drop (o .values .wrote) (lentAny k)
+  pub room : length (givesAny k x .output) ≡ length (lentAny k)
+  -- "A context that holds an unbuilt code, a size above 64 or a next COUNT above 16,777,216 gets 13, 14 or 16 before all else"
+  pub fault : (faultOf x ≡ 0 → ⊥) → givesAny k x .values ≡ refusal (faultOf x)
+
+-- "To use COUNT c forward makes next c + 1. Seals, forward opens and all four container calls do so. A late open uses c and leaves next as it is."
+abbrev pub MayBeLate : Call → Type 0
+MayBeLate (setWindow n) = ⊥
+MayBeLate (seal5gs t d k inner out) = ⊥
+MayBeLate (sealOpaque t d k inner out) = ⊥
+MayBeLate (open5gs d k m out) = Unit {0}
+MayBeLate (sealEps inner out) = ⊥
+MayBeLate (openEps m out) = Unit {0}
+MayBeLate makeN1ToS1 = ⊥
+MayBeLate (verifyN1ToS1 s) = ⊥
+MayBeLate (makeS1ToN1 ncc ngksi out) = ⊥
+MayBeLate (verifyS1ToN1 v) = ⊥
+
+-- "If it uses a COUNT, it answers that COUNT": the context has the COUNT answered as used, forward or late, and nothing else changed
+abbrev pub Demand1Uses : Call → Context → Type 0
+Demand1Uses k x =
+    let o = gives k x in
+    o .values .uses ≡ true
+    → (o .context ≡ used x (placeIn k) (o .values .count)) ⊎ (MayBeLate k × (o .context ≡ usedLate x (placeIn k) (o .values .count)))
+
+-- "8 uses the COUNT and writes the plaintext as a success would": both leave this.
+pub record HandsOver (x : Context) (p : ℕ) (plain : ℕ → List ℕ) (out : List ℕ) (o : Outcome) : Type 0 where
+  pub uses : o .values .uses ≡ true
+  pub context : (o .context ≡ used x p (o .values .count)) ⊎ (o .context ≡ usedLate x p (o .values .count))
+  pub wrote : o .values .wrote ≡ length (plain (o .values .count))
+  pub output : o .output ≡ over (plain (o .values .count)) out
+
+abbrev pub Opened : Outcome → Type 0
+Opened o = (o .values .number ≡ 0) ⊎ (o .values .number ≡ 8)
+
+abbrev pub plain5gs : Context → Direction → Connection → List ℕ → ℕ → List ℕ
+plain5gs x d k m c = payload (x .core) (ciphers (typeOf m)) c (bearerNo k) (directionNo d) (drop 7 m)
+
+pub record Demand1Open (x : Context) : Type 0 where
+  pub opens : (d : Direction) (k : Connection) (m out : List ℕ)
+      → let o = gives (open5gs d k m out) x in Opened o → HandsOver x (placeOf d k) (plain5gs x d k m) out o
+  -- "and a 5GS open the header type too; 8 answers the same and the number it carries": 9, 10 or 11
+  pub tells : (d : Direction) (k : Connection) (m out : List ℕ)
+      → let o = gives (open5gs d k m out) x in
+      Opened o
+      → (o .values .header ≡ typeOf m) × (o .values .carried ≡ lookOf (typeOf m) (directionNo d) (plain5gs x d k m (o .values .count)))
+  pub carries : (d : Direction) (k : Connection) (m out : List ℕ)
+      → let o = gives (open5gs d k m out) x in o .values .number ≡ 8 → In (o .values .carried) (9 ∷ 10 ∷ 11 ∷ [])
+  pub opens-eps : (m out : List ℕ) → let o = gives (openEps m out) x in Opened o → HandsOver x epsPlace (λ c. drop 6 m) out o
+  pub carries-eps : (m out : List ℕ) → let o = gives (openEps m out) x in o .values .number ≡ 8 → o .values .carried ≡ 12
+
+-- "A refused creation or restore hands back a context with both codes 255 and all else 0, which every call refuses with 13."
+pub record Demand1Making : Type 0 where
+  pub created : (i c : ℕ) (ik ck : List ℕ) → let o = makes (create i c ik ck) in
+      (o .values ≡ refusal 0) ⊎ ((o .values ≡ refusal 13) × (o .context ≡ refusedContext))
+  pub restored : (i c : ℕ) (ik ck next : List ℕ) → let o = makes (restore i c ik ck next) in
+      (o .values ≡ refusal 0) ⊎ (((o .values ≡ refusal 13) ⊎ (o .values ≡ refusal 16)) × (o .context ≡ refusedContext))
+  pub refuses : (k : Any) → givesAny k refusedContext .values ≡ refusal 13

@@ -1,0 +1,1 @@
+// The promises: the three demands over the public calls. Definitions and proofs alone.

@@ -145,11 +145,11 @@ module _ (z : Context) (t : ℕ) (d : Direction) (k : Connection) (inner out : L
   abbrev seal-list : List ℕ
   seal-list = sealRefusals z t (placeOf d k) (directionNo d) inner (length out)
 
-  seal-passed : Succeeds (gives (seal5gs t d k inner out) z) → (i : ℕ) → getD seal-list i 0 ≡ 0
+  pub seal-passed : Succeeds (gives (seal5gs t d k inner out) z) → (i : ℕ) → getD seal-list i 0 ≡ 0
   unfolding sealRefusal
   seal-passed h = passed seal-list (opened-passed (seal5gs t d k inner out) z (inl h))
 
-  seal-type : Succeeds (gives (seal5gs t d k inner out) z) → (1 ≤ t) × (t ≤ 4)
+  pub seal-type : Succeeds (gives (seal5gs t d k inner out) z) → (1 ≤ t) × (t ≤ 4)
   seal-type h = type-right t (off 3 (wrongType t) (omega arith) (seal-passed h 2))
 
   seal-look : Succeeds (gives (seal5gs t d k inner out) z) → lookOf t (directionNo d) inner ≡ 0
@@ -157,13 +157,13 @@ module _ (z : Context) (t : ℕ) (d : Direction) (k : Connection) (inner out : L
       look-passed t (directionNo d) inner (off 9 (notKnown inner) (omega arith) (seal-passed h 1))
       (off 10 (notTogether t inner) (omega arith) (seal-passed h 3)) (off 11 (wrongWay (directionNo d) inner) (omega arith) (seal-passed h 4))
 
-  opaque-type : Succeeds (gives (sealOpaque t d k inner out) z) → (1 ≤ t) × (t ≤ 4)
+  pub opaque-type : Succeeds (gives (sealOpaque t d k inner out) z) → (1 ≤ t) × (t ≤ 4)
   unfolding opaqueRefusal
   opaque-type h =
       let l = opaqueRefusals z t (placeOf d k) inner (length out) in
       type-right t (off 3 (wrongType t) (omega arith) (passed l (opened-passed (sealOpaque t d k inner out) z (inl h)) 1))
 
-eps-content : (z : Context) (inner out : List ℕ) → Succeeds (gives (sealEps inner out) z) → notEps inner ≡ false
+pub eps-content : (z : Context) (inner out : List ℕ) → Succeeds (gives (sealEps inner out) z) → notEps inner ≡ false
 unfolding sealEpsRefusal
 eps-content z inner out h =
     off 12 (notEps inner) (omega arith) (passed (sealEpsRefusals z inner (length out)) (opened-passed (sealEps inner out) z (inl h)) 1)

@@ -1,3 +1,5 @@
+-- Shapes, Passing, Numbers: what calls share. Soundness, Faults: the calls as a machine of crate count. Opening, Taking: a sealed message and what opening it
+-- leaves. Then a file for each statement, and Promises, all of them.
 pub mod Shapes
 pub mod Passing
 pub mod Numbers
@@ -9,6 +11,8 @@ pub mod Demand1
 pub mod Demand2
 pub mod Containers
 pub mod Demand3
+pub mod Delivery
 pub mod Null
 pub mod Isolation
 pub mod Tightness
+pub mod Promises

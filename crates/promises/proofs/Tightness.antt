@@ -1,5 +1,5 @@
 -- No second answer fits, and wrong contexts do not keep demand 3.
-use Prim.Native.Nat.{ℕ, _<_}
+use Prim.Native.Nat.{ℕ, _≤_, _<_}
 use mathlib.Core.Path.{_≡_, refl, sym, ap, _∙_, subst}
 use mathlib.Core.Bool.{true, false}
 use mathlib.Core.Logic.{inl, inr}
@@ -26,12 +26,12 @@ use Rattle.nas_5gs.specs.Envelope.{envelope}
 use Rattle.promises.specs.Calls.{Call, setWindow, open5gs, Outcome, gives, usedBy, contextAfter, countsUsed}
 use Rattle.promises.specs.Words.{recordOf, TakenAs}
 use Rattle.promises.specs.Demand3.{Fresh, StillOpen, Opens, Keeps}
-use Rattle.promises.specs.Tightness.{OnlyOne, RefusesAll, OpensAsNext, LeavesStill, Invents, NeverLate, AsInP6, Tightness}
+use Rattle.promises.specs.Tightness.{OnlyOne, RefusesAll, OpensAsNext, LeavesStill, Invents, NeverLate, AsInP6, p6Calls, Tightness}
 use Rattle.promises.proofs.Shapes.{does, acts, same-keys}
 use Rattle.promises.proofs.Soundness.{does-valid, own-after}
 use Rattle.promises.proofs.Passing.{passes, gives-passed}
 use Rattle.promises.proofs.Taking.{no-fault}
-use Rattle.promises.proofs.Demand3.{started, good-now}
+use Rattle.promises.proofs.Demand3.{started, good-now, keeps}
 use Rattle.promises.proofs.Opening.{envelope-sealed}
 
 pub only-one : OnlyOne
@@ -157,6 +157,32 @@ moved x f m out u e =
     let t = used-five (does k y) (recordOf 0 y) (does-valid y (g .guarded) k) c (w .0) in
     (ap (λ (z : State). z .at .next) (own-after k y (g .four) (omega arith)) ∙ t .0, acts k y (g .four) .size-after ∙ t .1 ∙ w .1)
 
+-- P6 over the calls
+module _ (x : Context) (f : Fresh x) where
+  abbrev five : Call
+  five = open5gs Uplink ThreeGpp (envelope (x .core) 1 5 1 0 one) one
+
+  abbrev wide : Context
+  wide = gives (setWindow 8) x .context
+
+  five-taken : TakenAs (gives five wide) 5 one one
+  five-taken =
+      let n = sized x f .0 in
+      keeps x f (setWindow 8 ∷ []) .opens Uplink ThreeGpp (x .core) 1 5 one one (same-keys (x .core)) (omega arith) (omega arith) (omega arith) (omega arith) (omega arith) (omega arith)
+      .exactly .1 (inr ((omega arith, omega arith), λ c s q h. let w = s .1 .0 .under in omega arith))
+
+  p6-counts : countsUsed gives 0 x (p6Calls x) ≡ 5 ∷ []
+  p6-counts = rw (five-taken .uses, five-taken .count)
+
+  p6-still : (c : ℕ) → c ≤ 4 → StillOpen gives 0 x (p6Calls x) c
+  p6-still c h =
+      let n = sized x f .0 in
+      let m = moved x f (envelope (x .core) 1 5 1 0 one) one (five-taken .uses) (five-taken .count) in
+      ((λ i. unused (subst (In c) p6-counts i)), (record { under = omega arith; near = omega arith }, inl (omega arith, omega arith)))
+    where
+      unused : In c (5 ∷ []) → ⊥
+      unused (inl e) = omega arith
+
 -- NEA2 changes an octet: AES of the zero block under the zero key begins with 66
 changes : nea2Of zeros 0 0 0 (0 ∷ []) ≡ 0x66 ∷ []
 unfolding expandKey words nextWord turned rcon word xTimes sbox affine inverse squares times timesBits zipWith cipher rounds addRoundKey mixColumns shiftRows subBytes toState fromState ctrOf keystream counter head nea2Of
@@ -165,6 +191,7 @@ changes = refl
 pub tightness : Tightness
 tightness =
     record {
+      p6-late = λ x f. (moved x f (envelope (x .core) 1 5 1 0 one) one (five-taken x f .uses) (five-taken x f .count) .0, p6-still x f);
       refuses-all = λ G r k. refused G k r;
       opens-as-next = λ G r k. as-next G k r;
       leaves-still = λ G r k. still G k r;

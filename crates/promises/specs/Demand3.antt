@@ -50,12 +50,17 @@ module _ (G : Call → Context → Outcome) where
   abbrev pub StillOpen : ℕ → Context → List Call → ℕ → Type 0
   StillOpen p x ks c = (In c (countsUsed G p x ks) → ⊥) × InsideSince p x ks c
 
-  -- Of a message sealed for COUNT c on the record at p, whose code fits the COUNTs that `fit` says, and the outcome of the matching open call.
+  -- when a message for COUNT c whose code fits the COUNTs that `fit` says is to be taken as c: "c is among the 256 COUNTs from the next one on, or was passed
+  -- over, never used, and has lain inside the window ever since", but for the exception
+  abbrev pub Due : ℕ → Context → List Call → (ℕ → Type 0) → ℕ → Type 0
+  Due p x ks fit c =
+      StillOpen p x ks c
+      ⊎ (Ahead p (contextAfter G x ks) c × ((c′ : ℕ) → StillOpen p x ks c′ → c′ % 256 ≡ c % 256 → fit c′ → ⊥))
+
+  -- Of a message sealed for COUNT c on the record at p, and the outcome of the matching open call.
   pub record Opens (p : ℕ) (x : Context) (ks : List Call) (fit : ℕ → Type 0) (o : Outcome) (c : ℕ) (inner out : List ℕ) : Type 0 where
-    -- "exactly when", but for the exception
-    pub exactly : TakenAs o c inner out
-        ↔ (StillOpen p x ks c
-        ⊎ (Ahead p (contextAfter G x ks) c × ((c′ : ℕ) → StillOpen p x ks c′ → c′ % 256 ≡ c % 256 → fit c′ → ⊥)))
+    -- "uses c and hands over its octets exactly when .."
+    pub exactly : TakenAs o c inner out ↔ Due p x ks fit c
     -- "a forward c whose code also fits a still open late COUNT with the same last octet is taken as that one"
     pub exception : (c′ : ℕ) → StillOpen p x ks c′ → c′ % 256 ≡ c % 256 → fit c′ → (o .values .uses ≡ true) × (o .values .count ≡ c′)
 

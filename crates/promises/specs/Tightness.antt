@@ -3,7 +3,7 @@
 use Prim.Native.Nat.{ℕ, _≤_}
 use mathlib.Core.Path.{_≡_}
 use mathlib.Core.Bool.{true, false}
-use mathlib.Core.List.{List}
+use mathlib.Core.List.{List, [], _∷_}
 use Rattle.aes.specs.Nas.{nea2Of}
 use Rattle.nas_core.specs.Verify.{fits}
 use Rattle.nas_5gs.specs.declared.Context.{Context}
@@ -13,8 +13,9 @@ use Rattle.nas_5gs.specs.declared.Connection.{Connection}
 use Rattle.nas_5gs.specs.declared.Connection.the-variants.{ThreeGpp}
 use Rattle.nas_5gs.specs.Places.{directionNo, bearerNo, placeOf, nextAt}
 use Rattle.nas_5gs.specs.Leaves.{Leaves, leaves}
-use Rattle.promises.specs.Calls.{Call, setWindow, open5gs, Outcome, gives}
-use Rattle.promises.specs.Demand3.{Fresh, Keeps}
+use Rattle.nas_5gs.specs.Envelope.{envelope}
+use Rattle.promises.specs.Calls.{Call, setWindow, open5gs, Outcome, gives, contextAfter}
+use Rattle.promises.specs.Demand3.{Fresh, StillOpen, Keeps}
 
 -- "what a public function says, refusals too, determines the answer, the context and each lent buffer; show that no second answer fits": every contract is
 -- an equation of the answer, the context and the output as the call leaves it with one definition l of its arguments
@@ -54,7 +55,14 @@ pub record AsInP6 (G : Call → Context → Outcome) : Type 0 where
       → let o = G (open5gs Uplink ThreeGpp m out) (G (setWindow 8) x .context) in
       o .values .uses ≡ true → o .values .count ≡ 5 → (nextAt (o .context) 0 ≡ 6) × (o .context .core .size ≡ 8)
 
+-- the two calls of P6, the last one first: a message of one octet for COUNT 5 opened, after size 8 was set
+abbrev pub p6Calls : Context → List Call
+p6Calls x = open5gs Uplink ThreeGpp (envelope (x .core) 1 5 1 0 (0 ∷ [])) (0 ∷ []) ∷ setWindow 8 ∷ []
+
 pub record Tightness : Type 0 where
+  -- what is said of late COUNTs is said of something: P6 over the calls
+  pub p6-late : (x : Context) → Fresh x
+      → (nextAt (contextAfter gives x (p6Calls x)) 0 ≡ 6) × ((c : ℕ) → c ≤ 4 → StillOpen gives 0 x (p6Calls x) c)
   pub refuses-all : (G : Call → Context → Outcome) → RefusesAll G → Keeps G → ⊥
   pub opens-as-next : (G : Call → Context → Outcome) → OpensAsNext G → Keeps G → ⊥
   pub leaves-still : (G : Call → Context → Outcome) → LeavesStill G → Keeps G → ⊥

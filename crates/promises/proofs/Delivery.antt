@@ -1,0 +1,79 @@
+-- Demands 2 and 3 together.
+use Prim.Native.Nat.{ℕ, _≤_, _<_}
+use mathlib.Core.Path.{_≡_, refl, sym, _∙_, subst}
+use mathlib.Core.Bool.{false}
+use mathlib.Core.Logic.{inl}
+use mathlib.Core.List.{List, [], _∷_}
+use native.Mathlib.Omega.{arith}
+use lib.ListN.{length, getD}
+use lib.Dec.{ltb}
+use borrow.Author.Tests.{ltb-false}
+use Rattle.count.specs.Rule.{exhausted}
+use Rattle.refusals.specs.Order.{_when_, first}
+use Rattle.refusals.proofs.Laws.{passed, off}
+use Rattle.look.specs.Look.{isMobility, isSession, wayIn, notKnown}
+use Rattle.nas_core.specs.Refusals.{limit}
+use Rattle.nas_5gs.specs.Places.{directionNo, placeOf}
+use Rattle.nas_5gs.specs.Seal.{sealRefusals, sealRefusal, opaqueRefusals, opaqueRefusal}
+use Rattle.nas_5gs.specs.Eps.{notEps, sealEpsRefusals, sealEpsRefusal}
+use Rattle.promises.specs.Calls.{seal5gs, sealOpaque, open5gs, sealEps, openEps, gives, contextAfter}
+use Rattle.promises.specs.Words.{written, TakenAs}
+use Rattle.promises.specs.Delivery.{Delivery}
+use Rattle.promises.proofs.Soundness.{trans-keys, next-there}
+use Rattle.promises.proofs.Demand1.{opened-passed}
+use Rattle.promises.proofs.Demand2.{writes, returns, seal-type, seal-passed, opaque-type, eps-content}
+use Rattle.promises.proofs.Demand3.{keeps}
+
+-- a message that passes the look is not empty
+not-empty : (m : List ℕ) → notKnown m ≡ false → 1 ≤ length m
+unfolding notKnown wayIn isMobility isSession
+not-empty [] e = let z : _≡_ {A = ℕ} 0 1 = cc in absurd (omega arith)
+not-empty (a ∷ m) e = omega arith
+
+not-empty-eps : (m : List ℕ) → notEps m ≡ false → 1 ≤ length m
+unfolding notEps
+not-empty-eps [] e = let z : _≡_ {A = ℕ} 0 1 = cc in absurd (omega arith)
+not-empty-eps (a ∷ m) e = omega arith
+
+within-limit : (l : List ℕ) (i n : ℕ) → first l ≡ 0 → getD l i 0 ≡ 4 when (ltb limit n) → n ≤ limit
+within-limit l i n e q = ltb-false limit n (off 4 (ltb limit n) (omega arith) (sym q ∙ passed l e i))
+
+pub delivery : Delivery
+unfolding sealRefusal opaqueRefusal sealEpsRefusal
+delivery z x fresh same ks =
+    let d3 = keeps x fresh ks in
+    let now = contextAfter gives x ks in
+    let keys = trans-keys (z .core) (x .core) (now .core) same (d3 .keys) in
+    record {
+      seal = λ t d k inner out room h fit due.
+          let s = gives (seal5gs t d k inner out) z in
+          let w = writes z .seal t d k inner out h in
+          let r = seal-type z t d k inner out h in
+          let e = opened-passed (seal5gs t d k inner out) z (inl h) in
+          let below : s .values .count < exhausted = subst (λ (c : ℕ). c < exhausted) (sym (w .0 .1)) (next-there (seal5gs t d k inner out) z e) in
+          let some = not-empty inner (off 9 (notKnown inner) (omega arith) (seal-passed z t d k inner out h 1)) in
+          let low = within-limit (sealRefusals z t (placeOf d k) (directionNo d) inner (length out)) 5 (length inner) e refl in
+          let o = d3 .opens d k (z .core) t (s .values .count) inner room same (r .0) (r .1) below some low fit in
+          let taken : TakenAs (gives (open5gs d k (written s) room) now) (s .values .count) inner room =
+          rw (w .1) (o .exactly .1 (rw (w .1) at due)) in
+          let u = returns z now keys .seal t d k inner out room h (taken .uses, taken .count) in (u .0, taken);
+      opaque = λ t d k inner out room h some fit due.
+          let s = gives (sealOpaque t d k inner out) z in
+          let w = writes z .opaque t d k inner out h in
+          let r = opaque-type z t d k inner out h in
+          let e = opened-passed (sealOpaque t d k inner out) z (inl h) in
+          let below : s .values .count < exhausted = subst (λ (c : ℕ). c < exhausted) (sym (w .0 .1)) (next-there (sealOpaque t d k inner out) z e) in
+          let low = within-limit (opaqueRefusals z t (placeOf d k) inner (length out)) 2 (length inner) e refl in
+          let o = d3 .opens d k (z .core) t (s .values .count) inner room same (r .0) (r .1) below some low fit in
+          rw (w .1) (o .exactly .1 (rw (w .1) at due));
+      eps = λ inner out room h fit due.
+          let s = gives (sealEps inner out) z in
+          let w = writes z .eps inner out h in
+          let e = opened-passed (sealEps inner out) z (inl h) in
+          let below : s .values .count < exhausted = subst (λ (c : ℕ). c < exhausted) (sym (w .0 .1)) (next-there (sealEps inner out) z e) in
+          let some = not-empty-eps inner (eps-content z inner out h) in
+          let low = within-limit (sealEpsRefusals z inner (length out)) 2 (length inner) e refl in
+          let o = d3 .opens-eps (z .core) (s .values .count) inner room same below some low fit in
+          let taken : TakenAs (gives (openEps (written s) room) now) (s .values .count) inner room = rw (w .1) (o .exactly .1 (rw (w .1) at due)) in
+          let u = returns z now keys .eps inner out room h (taken .uses, taken .count) in (u .0, taken);
+    }

@@ -1,0 +1,24 @@
+// Words, numbers and octets of hex lines, read from and written to lent slices. No line, however long or odd, is read or written out of bounds.
+mod print;
+mod read;
+
+pub use print::put_decimal;
+pub use print::put_number;
+pub use print::put_octets;
+pub use print::put_text;
+pub use read::decode;
+pub use read::field;
+pub use read::find;
+
+// A number as text, or text that is none.
+pub enum Number {
+    Bad,
+    Value(u64),
+}
+
+// Octets as text: how many, or too many for the output, or text that is none.
+pub enum Decoded {
+    Bad,
+    Long,
+    Octets(usize),
+}

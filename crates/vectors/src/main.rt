@@ -3,48 +3,13 @@
 //   cmac NAME key message                        nea2 NAME key count bearer direction octets
 //                                                nia2 NAME key count bearer direction message
 ghost use mathlib.Core.Path.{_≡_};
-ghost use Prim.Native.Nat.{_≤_, _<_};
+ghost use Prim.Native.Nat.{_≤_};
 ghost use lib.ListN.{length};
 
 // A word of a line.
 struct Span {
     from: usize,
     to: usize,
-}
-
-fn digit(b: u8) -> u8
-    ensures { λ r. ⌜ r < 16 ⌝ }
-{
-    match b {
-        48..=57 => b - 48,
-        97..=102 => b - 87,
-        _ => 0,
-    }
-}
-
-fn digit_char(n: u8) -> u8 {
-    if n < 10 {
-        return n + 48;
-    }
-    if n < 16 {
-        return n + 87;
-    }
-    63
-}
-
-// The place of the next b from a place on, or the text's end.
-fn find(text: &[u8], from: usize, b: u8) -> usize
-    requires { ⌜ from ≤ length (now text) ⌝ }
-    ensures { λ r. ⌜ (from ≤ r) × (r ≤ length (now (text .entry))) ⌝ }
-{
-    let mut at = from;
-    while at < text.len() {
-        if text[at] == b {
-            return at;
-        }
-        at += 1;
-    }
-    at
 }
 
 // Word k of a line, counted from 0; an empty one at its end where there are fewer.
@@ -54,7 +19,7 @@ fn word(line: &[u8], k: usize) -> Span
     let mut from = 0;
     let mut done = 0;
     while done < k {
-        let end = find(line, from, b' ');
+        let end = hex_lines::find(line, from, b' ');
         if end == line.len() {
             return Span { from: end, to: end };
         }
@@ -63,7 +28,7 @@ fn word(line: &[u8], k: usize) -> Span
     }
     Span {
         from,
-        to: find(line, from, b' '),
+        to: hex_lines::find(line, from, b' '),
     }
 }
 
@@ -74,30 +39,26 @@ fn nth(line: &[u8], k: usize) -> &[u8] {
     &line[from..to]
 }
 
-// Octet i of a word, 0 behind its end.
-fn octet(text: &[u8], i: usize) -> u8 {
-    if i < text.len() / 2 {
-        digit(text[i * 2]) * 16 + digit(text[i * 2 + 1])
-    } else {
-        0
-    }
-}
-
 fn block(text: &[u8]) -> [u8; 16] {
     let mut b = [0u8; 16];
-    let mut i = 0;
-    while i < 16 {
-        b[i] = octet(text, i);
-        i += 1;
-    }
+    hex_lines::decode(text, &mut b);
     b
 }
 
+fn joined(a: u8, b: u8, c: u8, d: u8) -> u32 {
+    a as u32 * 0x100_0000 + b as u32 * 0x1_0000 + c as u32 * 0x100 + d as u32
+}
+
 fn number(text: &[u8]) -> u32 {
-    octet(text, 0) as u32 * 0x100_0000
-        + octet(text, 1) as u32 * 0x1_0000
-        + octet(text, 2) as u32 * 0x100
-        + octet(text, 3) as u32
+    let mut b = [0u8; 4];
+    hex_lines::decode(text, &mut b);
+    joined(b[0], b[1], b[2], b[3])
+}
+
+fn octet(text: &[u8]) -> u8 {
+    let mut b = [0u8];
+    hex_lines::decode(text, &mut b);
+    b[0]
 }
 
 // How many octets a word has, at most a buffer's.
@@ -112,24 +73,19 @@ fn octets(text: &[u8]) -> [u8; 256]
     ensures { λ r. ⌜ 256 ≡ length r ⌝ }
 {
     let mut b = [0u8; 256];
-    let mut i = 0;
-    while i < 256 {
-        b[i] = octet(text, i);
-        i += 1;
-    }
+    hex_lines::decode(text, &mut b);
     b
 }
 
 fn show(name: &[u8], result: &[u8]) {
+    if 256 < result.len() {
+        return;
+    }
+    let mut text = [0u8; 512];
+    let n = hex_lines::put_octets(result, &mut text, 0);
     io::write_all(1, name);
     io::write_all(1, b" ");
-    let mut i = 0;
-    while i < result.len() {
-        let b = result[i];
-        let pair = [digit_char(b / 16), digit_char(b % 16)];
-        io::write_all(1, &pair);
-        i += 1;
-    }
+    io::write_all(1, &text[..n]);
     io::write_all(1, b"\n");
 }
 
@@ -157,8 +113,8 @@ fn run_nas(second: u8, line: &[u8], m: &mut [u8]) {
     let name = nth(line, 1);
     let key = block(nth(line, 2));
     let count = number(nth(line, 3));
-    let bearer = octet(nth(line, 4), 0);
-    let direction = digit(letter(nth(line, 5), 0));
+    let bearer = octet(nth(line, 4));
+    let direction = letter(nth(line, 5), 0) % 2;
     if second == b'e' {
         aes::nea2(key, count, bearer, direction, m);
         show(name, m);
@@ -210,7 +166,7 @@ fn run_line(line: &[u8]) {
 fn run_lines(text: &[u8]) {
     let mut at = 0;
     while at < text.len() {
-        let end = find(text, at, b'\n');
+        let end = hex_lines::find(text, at, b'\n');
         run_line(&text[at..end]);
         if end == text.len() {
             return;

@@ -9,8 +9,7 @@ use Rattle.hex_lines.specs.Hex.{areDigits, numberAfter, octetsOf}
 use Rattle.hex_lines.specs.declared.Number.{Number}
 use Rattle.hex_lines.specs.declared.Number.the-variants.{Bad, Value}
 use Rattle.hex_lines.specs.declared.Decoded.{Decoded}
-use Rattle.hex_lines.specs.declared.Decoded.the-variants.{Long, Octets}
-use Rattle.hex_lines.specs.declared.Decoded.the-variants.{Bad as None}
+use Rattle.hex_lines.specs.declared.Decoded.the-variants.{Long, Octets, Bad as None}
 
 -- what stands before the first octet that is `stop`: a word before a space, a line before LF
 unfoldable pub upTo : ℕ → List ℕ → List ℕ

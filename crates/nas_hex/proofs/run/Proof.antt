@@ -1,3 +1,4 @@
+-- The measure is the turns that are left; the buffers keep their lengths.
 use mathlib.Core.Path.{_≡_}
 use borrow.Author.Needs.{needs}
 use lib.ListN.{length}

@@ -12,4 +12,5 @@ pub cmac-of-halves-spec : {M : Type 1} → statement M
 cmac-of-halves-spec =
     tie.close
     (tie.spec
-    slice-aggregate-cmac λ c. search needs λ c. search needs λ c. search needs λ c κs. search needs λ c. search needs)
+    slice-aggregate-cmac (λ c. search needs) (λ c. search needs) (λ c. search needs) (λ c κs. search needs)
+    (λ c. search needs))

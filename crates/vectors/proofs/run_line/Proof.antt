@@ -12,5 +12,5 @@ pub run-line-spec : {M : Type 1} → statement M
 run-line-spec =
     tie.close
     (tie.spec
-    λ c κs. search needs λ c κs. search needs λ c κs. search needs λ c κs. search needs λ c κs. search needs λ c κs.
-    search needs λ c. search needs slice-aggregate-run-on λ c κs. search needs λ c. search needs)
+    (λ c κs. search needs) (λ c κs. search needs) (λ c κs. search needs) (λ c κs. search needs) (λ c κs. search needs)
+    (λ c κs. search needs) (λ c. search needs) slice-aggregate-run-on (λ c κs. search needs) (λ c. search needs))

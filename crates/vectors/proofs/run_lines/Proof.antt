@@ -14,5 +14,6 @@ pub run-lines-spec : {M : Type 1} → statement M
 run-lines-spec =
     tie.close
     (tie.spec
-    Inv-loop μ-loop λ c. search needs λ c κs. search needs λ c. search needs λ c. search needs λ c. search needs λ c
-    κs. search needs λ c. search needs λ c. search needs λ c. search needs λ c. search needs λ c. search needs)
+    Inv-loop μ-loop (λ c. search needs) (λ c κs. search needs) (λ c. search needs) (λ c. search needs)
+    (λ c. search needs) (λ c κs. search needs) (λ c. search needs) (λ c. search needs) (λ c. search needs)
+    (λ c. search needs) (λ c. search needs))

@@ -1,3 +1,4 @@
+-- At each turn, the first i characters are in place.
 use Prim.Native.Nat.{_-_, _≤_}
 use mathlib.Core.Path.{_≡_, refl}
 use native.Mathlib.Omega.{arith}

@@ -1,3 +1,4 @@
+-- At each turn, what is left are digits exactly when the whole is.
 use Prim.Native.Nat.{_-_, _≤_}
 use mathlib.Core.Path.{_≡_}
 use native.Mathlib.Omega.{arith}

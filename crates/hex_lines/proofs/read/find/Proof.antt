@@ -1,3 +1,4 @@
+-- At each turn, the place and what stands before the next stop come to the answer.
 use Prim.Native.Nat.{_+_, _-_, _≤_}
 use mathlib.Core.Path.{_≡_}
 use native.Mathlib.Omega.{arith}
@@ -15,6 +16,15 @@ Inv-loop text from stop at₀ at =
 abbrev μ-loop : tie.MeasureT-loop
 μ-loop text from stop at₀ at = length text - at
 
+-- src/read.rt:64:5
+loop-holds : tie.Need-loop-holds Inv-loop μ-loop
+loop-holds c = search needs
+
+-- src/read.rt:65:12
+shared-slice-read-if1 : tie.Need-shared-slice-read-if1 Inv-loop μ-loop
+shared-slice-read-if1 c = search needs
+
+-- src/read.rt:66:13
 returns : tie.Need-returns Inv-loop μ-loop
 returns c = (
   laws.found _ (c .before .before .before .loop .at) (omega arith) _ _ (c .if1 .taken) (c .before .before .before .loop .inv .2),
@@ -22,10 +32,20 @@ returns c = (
   omega arith,
 )
 
+-- src/read.rt:68:9
+add-at : tie.Need-add-at Inv-loop μ-loop
+add-at c = search needs
+
+-- src/read.rt:64:5
+loop-less : tie.Need-loop-less Inv-loop μ-loop
+loop-less c = search needs
+
+-- src/read.rt:64:5
 loop-again : tie.Need-loop-again Inv-loop μ-loop
 loop-again c =
     (omega arith, omega arith, laws.not-yet _ (c .before .before .before .loop .at) (omega arith) _ _ (c .if1 .left) (c .before .before .before .loop .inv .2))
 
+-- src/read.rt:59:1
 returns-2 : tie.Need-returns-2 Inv-loop μ-loop
 returns-2 c = (laws.not-found _ (c .before .loop .at) _ _ (omega arith) (c .before .loop .inv .2), omega arith, omega arith)
 
@@ -33,5 +53,12 @@ pub find-spec : {M : Type 1} → statement M
 find-spec =
     tie.close
     (tie.spec
-    Inv-loop μ-loop (λ c. search needs) (λ c. search needs) returns (λ c. search needs) (λ c. search needs) loop-again
+    Inv-loop
+    μ-loop
+    loop-holds
+    shared-slice-read-if1
+    returns
+    add-at
+    loop-less
+    loop-again
     returns-2)

@@ -1,3 +1,4 @@
+-- At each turn, the first i octets are in place.
 use Prim.Native.Nat.{_-_, _/_, _≤_}
 use mathlib.Core.Path.{_≡_, sym, _∙_}
 use native.Mathlib.Omega.{arith}

@@ -1,3 +1,4 @@
+-- At each turn, the number so far and the digits left make the whole; a number of i digits is below 16 ^ i.
 use Prim.Native.Nat.{_-_, _^_, _≤_, _<_}
 use mathlib.Core.Path.{_≡_}
 use native.Mathlib.Numerals.{add-one}

@@ -1,3 +1,4 @@
+-- Each turn takes in a line or a piece of one; the buffers keep their lengths.
 use Prim.Native.Nat.{_-_, _≤_}
 use mathlib.Core.Path.{_≡_}
 use borrow.Author.Needs.{needs}

@@ -1,3 +1,4 @@
+-- Each turn prints a piece.
 use Prim.Native.Nat.{_-_, _≤_}
 use borrow.Author.Needs.{needs}
 use lib.ListN.{length}

@@ -1,13 +1,10 @@
 // Reads hex lines from standard input, makes a call for each on one of eight contexts, and prints one line for each.
-mod answer;
-mod call;
-mod line;
-mod print;
-mod words;
-
-use line::Line;
+use hex_words::line::Line;
+use hex_words::names;
+use hex_words::print;
+use hex_words::words;
+use hex_words::words::Place;
 use nas_5gs::Context;
-use words::Place;
 
 // What is kept from line to line: the slots, the line that is being read, and the place after what is printed.
 struct Session {
@@ -34,7 +31,7 @@ impl Session {
     }
 
     fn bad(mut self, print: &mut [u8; 65536]) -> Session {
-        self.at = answer::bad(print, self.at);
+        self.at = hex_answers::bad_line(print, self.at);
         self
     }
 
@@ -60,8 +57,8 @@ impl Session {
         }
         let slot = words::slot(word.value);
         let before = self.slots[slot];
-        let done = call::perform(
-            call::named(words::front(text, name_end)),
+        let done = hex_calls::perform(
+            names::named(words::front(text, name_end)),
             text,
             word.place,
             before,

@@ -1,4 +1,4 @@
--- The COUNT rule of document 01 ("Words", "The COUNT rule"), over one record. A record has the next COUNT and 64 window bits: bit d - 1 is the
+-- The COUNT rule of document 01 ("Words", "The COUNT rule"; TS 24.501 4.4.3), over one record. A record has the next COUNT and 64 window bits: bit d - 1 is the
 -- window bit for d, and is set when the COUNT d below the highest used one, next - 1, is used.
 use Prim.Native.Nat.{ℕ, _+_, _-_, _*_, _/_, _%_, _^_, min}
 use mathlib.Core.Bool.{Bool, cond, _&&_}

@@ -1,4 +1,4 @@
--- The octets of an EPS message under a 5GS context (document 01, "The octets"; TS 33.501 8.5.2, TS 24.301 4.4.2.3).
+-- The octets of an EPS message under a 5GS context (document 01, "The octets"; TS 33.501 8.5.2 and 8.5.3).
 use Prim.Native.Nat.{ℕ}
 use mathlib.Core.Bool.{Bool, not, _&&_, _||_}
 use mathlib.Core.List.{List, _∷_}

@@ -1,4 +1,4 @@
--- The EPS message of a UE that goes from 5GS to EPS (document 01, "The octets"; TS 33.501 8.5.2, TS 24.301 4.4.2.3):
+-- The EPS message of a UE that goes from 5GS to EPS (document 01, "The octets"; TS 33.501 8.5.2 and 8.5.3):
 -- uplink 3GPP record, bearer 1, no ciphering.
 use Prim.Native.Nat.{ℕ}
 use mathlib.Core.Bool.{Bool, not, cond}

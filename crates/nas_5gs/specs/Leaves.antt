@@ -37,8 +37,9 @@ received x p refused handed Wrong = refused 7
 received x p refused handed (Late c) = handed c (usedLate x p c)
 received x p refused handed (Forward c) = handed c (used x p c)
 
--- the values: number is 0 for a success; the others are 0 where the answer has none
+-- the values: whether it is a refusal, and its number, 0 for a success; the others are 0 where the answer has none
 pub record Values : Type 0 where
+  pub refused : Bool
   pub number : ℕ
   pub uses : Bool
   pub count : ℕ
@@ -49,31 +50,35 @@ pub record Values : Type 0 where
 
 -- a number alone
 abbrev pub refusal : ℕ → Values
-refusal n = record { number = n; uses = false; count = 0; wrote = 0; header = 0; carried = 0; octet = 0 }
+refusal n = record { refused = true; number = n; uses = false; count = 0; wrote = 0; header = 0; carried = 0; octet = 0 }
+
+-- a success that uses no COUNT
+abbrev pub success : Values
+success = record { refused = false; number = 0; uses = false; count = 0; wrote = 0; header = 0; carried = 0; octet = 0 }
 
 -- creation, restore, reselection, window size
 abbrev pub changeValues : ChangeAnswer → Values
 changeValues (change.Refused n) = refusal n
-changeValues change.Done = refusal 0
+changeValues change.Done = success
 
 -- seals, S1-to-N1 containers, verifying the N1-to-S1 one
 abbrev pub useValues : UseAnswer → Values
 useValues (use′.Refused n) = refusal n
-useValues (use′.Used c w) = record { number = 0; uses = true; count = c; wrote = w; header = 0; carried = 0; octet = 0 }
+useValues (use′.Used c w) = record { refused = false; number = 0; uses = true; count = c; wrote = w; header = 0; carried = 0; octet = 0 }
 
 -- 5GS open
 abbrev pub openValues : OpenAnswer → Values
 openValues (open′.Refused n) = refusal n
-openValues (open′.Accepted c w t) = record { number = 0; uses = true; count = c; wrote = w; header = t; carried = 0; octet = 0 }
-openValues (open′.Content c w t n) = record { number = 8; uses = true; count = c; wrote = w; header = t; carried = n; octet = 0 }
+openValues (open′.Accepted c w t) = record { refused = false; number = 0; uses = true; count = c; wrote = w; header = t; carried = 0; octet = 0 }
+openValues (open′.Content c w t n) = record { refused = true; number = 8; uses = true; count = c; wrote = w; header = t; carried = n; octet = 0 }
 
 -- EPS open
 abbrev pub epsOpenValues : EpsOpenAnswer → Values
 epsOpenValues (eps.Refused n) = refusal n
-epsOpenValues (eps.Accepted c w) = record { number = 0; uses = true; count = c; wrote = w; header = 0; carried = 0; octet = 0 }
-epsOpenValues (eps.Content c w n) = record { number = 8; uses = true; count = c; wrote = w; header = 0; carried = n; octet = 0 }
+epsOpenValues (eps.Accepted c w) = record { refused = false; number = 0; uses = true; count = c; wrote = w; header = 0; carried = 0; octet = 0 }
+epsOpenValues (eps.Content c w n) = record { refused = true; number = 8; uses = true; count = c; wrote = w; header = 0; carried = n; octet = 0 }
 
 -- making the N1-to-S1 container: its one octet is answered as a number
 abbrev pub octetValues : OctetAnswer → Values
 octetValues (octet.Refused n) = refusal n
-octetValues (octet.Made c o) = record { number = 0; uses = true; count = c; wrote = 0; header = 0; carried = 0; octet = o }
+octetValues (octet.Made c o) = record { refused = false; number = 0; uses = true; count = c; wrote = 0; header = 0; carried = 0; octet = o }

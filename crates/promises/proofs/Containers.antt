@@ -33,7 +33,7 @@ use Rattle.nas_5gs.specs.Eps.{epsPlace, epsBearer, epsDirection}
 use Rattle.nas_5gs.specs.Containers.{containerPlace, containerBearer, containerDirection, s1Count, s1Value, s1ToN1, otherAlgorithms, verifyS1ToN1Refusals, verifyS1ToN1Refusal}
 use Rattle.promises.specs.Calls.{open5gs, openEps, makeN1ToS1, verifyN1ToS1, makeS1ToN1, verifyS1ToN1, Outcome, gives}
 use Rattle.promises.specs.Words.{SameKeys, Ahead, Succeeds, Uses}
-use Rattle.promises.specs.Demand2.{Containers, Twice, Estimates, Demand2}
+use Rattle.promises.specs.Demand2.{Containers, Twice, Estimates}
 use Rattle.promises.proofs.Shapes.{found, plain, openedAs, epsFound, epsAs, octetFound}
 use Rattle.promises.proofs.Soundness.{Four, next-there}
 use Rattle.promises.proofs.Passing.{gives-passed, gives-refused, uses-passed}
@@ -41,7 +41,7 @@ use Rattle.promises.proofs.Opening.{Parts, parts, fits-behind, codes-sa
 use Rattle.promises.proofs.Taking.{left, names, open-answering, eps-answering, open-left, eps-left}
 use Rattle.promises.proofs.Faults.{faultless, fault-stays}
 use Rattle.promises.proofs.Demand1.{opened-passed, s1-long}
-use Rattle.promises.proofs.Demand2.{accepts, writes-by, writes, returns}
+use Rattle.promises.proofs.Demand2.{writes-by}
 
 -- estimates
 taken-fits : (w : Bool) (fit : ℕ → Bool) (size : ℕ) (r : Record) (s c : ℕ) → Takes (opening 8 w fit size r s) c
@@ -61,7 +61,7 @@ module _ (x : Context) where
   unfolding verifyOf
   found-fits p b d q m c h = taken-fits (wraps (x .core)) (λ c′. fits (x .core) c′ b d q m) (x .core .size) (recordAt x p) (getD m (q + 4) 0) c h
 
-  estimates : Estimates x
+  pub estimates : Estimates gives x
   estimates =
       record {
         opens = λ d k m out c u.
@@ -82,7 +82,7 @@ module _ (x : Context) where
       }
 
 -- S1-to-N1
-both-built : (i c : ℕ) → unbuilt i c ≡ false → isBuilt i ≡ true
+pub both-built : (i c : ℕ) → unbuilt i c ≡ false → isBuilt i ≡ true
 unfolding unbuilt
 both-built i c e = go (isBuilt i) (isBuilt c) refl e
   where
@@ -116,13 +116,13 @@ unfolding s1ToN1
 s1-same x y ncc ngksi k = rw (codes-same x y s1Count containerBearer containerDirection k, k .ciphering, k .integrity)
 
 -- verified: what it must pass
-verify-passes : (x : Context) (v : List ℕ) → faultOf x ≡ 0 → 8 ≤ length v → length v ≤ limit → otherAlgorithms (x .core) v ≡ false
+pub verify-passes : (x : Context) (v : List ℕ) → faultOf x ≡ 0 → 8 ≤ length v → length v ≤ limit → otherAlgorithms (x .core) v ≡ false
     → nextAt x containerPlace < exhausted → fits (x .core) s1Count containerBearer containerDirection 0 v ≡ true → verifyS1ToN1Refusal x v ≡ 0
 unfolding verifyS1ToN1Refusal
 verify-passes x v fault from to same left fit =
     simp (fault, le-ltb (length v) 8 from, le-ltb limit (length v) to, same, lt-leb exhausted (nextAt x containerPlace) left, fit)
 
-verified : (x : Context) (v : List ℕ) → verifyS1ToN1Refusal x v ≡ 0
+pub verified : (x : Context) (v : List ℕ) → verifyS1ToN1Refusal x v ≡ 0
     → Succeeds (gives (verifyS1ToN1 v) x) × Uses (gives (verifyS1ToN1 v) x) (nextAt x containerPlace)
 unfolding useNext
 verified x v e = rw (gives-passed (verifyS1ToN1 v) x e) (refl, (refl, refl))
@@ -144,7 +144,7 @@ octet-made z h =
     let e = opened-passed makeN1ToS1 z (inl h) in
     rw (gives-passed makeN1ToS1 z e) (refl, next-there makeN1ToS1 z e)
 
-containers : (z x : Context) → SameKeys (z .core) (x .core) → Containers z x
+pub containers : (z x : Context) → SameKeys (z .core) (x .core) → Containers z x
 containers z x keys =
     record {
       s1ToN1 = λ ncc ngksi out h fault left.
@@ -242,15 +242,13 @@ module _ (x : Context) (v : List ℕ) (four : Four x) (h : Succeeds (gives (veri
       go true e = let n = round-next true e in again (c + 1) (omega arith) left
       go false e = again (c + 1) (round-next false e) left
 
-twice : (x : Context) (v : List ℕ) → Twice x v
+pub twice : (x : Context) (v : List ℕ) → Twice x v
 twice x v =
     record {
-      first-passes = λ h four left. twice-passes x v four h left;
+      first-passes = λ h four left. let t = twice-passes x v four h left in (verified x v (before x v four h) .1, t .0, t .1);
       took-last = λ h four last. (
+        verified x v (before x v four h) .1,
         (λ e. let n = round-next x v four h false e in six x v four h (omega arith)),
         λ e. let n = round-next x v four h true e in again x v four h 0 (omega arith) (omega arith),
       );
     }
-
-pub demand2 : Demand2
-demand2 = record { accepts = accepts; writes = writes; returns = returns; containers = containers; twice = twice; estimates = estimates }

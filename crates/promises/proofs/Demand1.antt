@@ -1,19 +1,19 @@
 -- Demand 1.
-use Prim.Native.Nat.{ℕ, _+_, _-_, _≤_}
+use Prim.Native.Nat.{ℕ, zero, suc, _+_, _-_, _≤_, _<_}
 use mathlib.Core.Path.{_≡_, refl, sym, ap, _∙_, subst}
-use mathlib.Core.Bool.{Bool, true, false, cond}
+use mathlib.Core.Bool.{Bool, true, false, cond, not, _||_}
 use mathlib.Core.Logic.{_⊎_, inl, inr}
 use mathlib.Core.List.{List, [], _∷_}
 use native.Mathlib.Omega.{arith}
 use lib.ListN.{length, getD, drop, replicate, length-append, length-drop}
 use lib.Seq.{drop-append-seam}
 use lib.Dec.{eqb, ltb}
-use borrow.Author.Tests.{eqb-true, eqb-false, ne-eqb, ltb-false}
+use borrow.Author.Tests.{eqb-true, eqb-false, ne-eqb, ltb-false, lt-ltb, le-ltb}
 use Rattle.count.specs.declared.Opening.{Opening}
 use Rattle.count.specs.declared.Opening.the-variants.{Late, Forward, None, Wrong}
 use Rattle.count.specs.declared.Candidate.{Candidate}
 use Rattle.count.specs.declared.Candidate.the-variants.{Nothing, At}
-use Rattle.count.specs.Rule.{forwardOf, tryForward, forwardOnly}
+use Rattle.count.specs.Rule.{exhausted, forwardOf, tryForward, forwardOnly}
 use Rattle.count.specs.Run.{In}
 use Rattle.count.proofs.Candidates.{never}
 use Rattle.count.proofs.Openings.{answers}
@@ -25,23 +25,25 @@ use Rattle.look.specs.Look.{lookOf}
 use Rattle.nas_core.specs.Refusals.{unbuilt, coreFault}
 use Rattle.nas_core.specs.Keyed.{wraps, codeBy}
 use Rattle.nas_5gs.specs.declared.Context.{Context}
+use Rattle.nas_5gs.specs.declared.Direction.{Direction}
+use Rattle.nas_5gs.specs.declared.Connection.{Connection}
 use Rattle.nas_5gs.specs.declared.ChangeAnswer.the-variants as change
 use Rattle.nas_5gs.specs.declared.UseAnswer.the-variants as use′
 use Rattle.nas_5gs.specs.declared.OpenAnswer.the-variants as open′
 use Rattle.nas_5gs.specs.declared.EpsOpenAnswer.the-variants as eps
 use Rattle.nas_5gs.specs.Places.{directionNo, bearerNo, placeOf, four, anyOver, recordAt, nextAt, faultOf, used, usedLate}
 use Rattle.nas_5gs.specs.Leaves.{leaves, over, useNext, received, Values, refusal, changeValues, useValues, openValues, epsOpenValues}
-use Rattle.nas_5gs.specs.Changes.{coreWith, contextWith, refusedContext, newOf, restoreOf, reselectOf}
+use Rattle.nas_5gs.specs.Changes.{coreWith, refusedContext, newOf, restoreOf, reselectOf, windowOf}
 use Rattle.nas_5gs.specs.Envelope.{ciphers, envelope}
 use Rattle.nas_5gs.specs.Seal.{sealRefusals, sealRefusal, opaqueRefusals, opaqueRefusal}
 use Rattle.nas_5gs.specs.Open.{typeOf, openRefusals, openRefusal, handed, opened}
 use Rattle.nas_5gs.specs.Eps.{epsPlace, notEps, epsMessage, sealEpsRefusals, sealEpsRefusal, openEpsRefusals, openEpsRefusal, epsHanded, epsOpened}
 use Rattle.nas_5gs.specs.Containers.{containerPlace, containerBearer, containerDirection, s1Count, s1Value, s1ToN1, s1ToN1Refusals, s1ToN1Refusal}
 use Rattle.promises.specs.Calls.{create, restore, makes, Any, reselect, givesAny, lentAny, Call, setWindow, seal5gs, sealOpaque, open5gs, sealEps, openEps, makeN1ToS1, verifyN1ToS1, makeS1ToN1, verifyS1ToN1, call, Outcome, outcome, gives, lent, placeIn}
-use Rattle.promises.specs.Demand1.{numbersOf, Demand1, MayBeLate, Demand1Uses, HandsOver, Opened, Demand1Open, Demand1Making}
+use Rattle.promises.specs.Demand1.{numbersOf, Demand1, MayBeLate, Demand1Uses, HandsOver, Opened, plain5gs, Demand1Open, Built, Demand1Making, Demand1Changes}
 use Rattle.promises.proofs.Shapes.{refusalOf, found, plain, look, openedAs, epsFound, epsAs, octetFound, octetRefused, octetUsed}
 use Rattle.promises.proofs.Passing.{passes, alone, sends, gives-passed, gives-refused, uses-passed}
-use Rattle.promises.proofs.Numbers.{Among, there, refusal-listed, refusal-not-8, reselect-listed, look-listed, fault-first}
+use Rattle.promises.proofs.Numbers.{Among, there, or-right, refusal-listed, refusal-not-8, reselect-listed, look-listed, fault-first}
 use Rattle.promises.proofs.Opening.{payload-length, eps-sealed}
 use Rattle.promises.proofs.Taking.{Answering, left, open-answering, eps-answering, open-left, eps-left, envelope-long}
 
@@ -51,10 +53,11 @@ record Told (s : List ℕ) (x : Context) (out : List ℕ) (o : Outcome) : Type 0
   kept : (o .values .number ≡ 0 → ⊥) → (o .values .number ≡ 8 → ⊥) → (o .values ≡ refusal (o .values .number)) × (o .context ≡ x) × (o .output ≡ out)
   behind : drop (o .values .wrote) (o .output) ≡ drop (o .values .wrote) out
   room : length (o .output) ≡ length out
+  within : o .values .wrote ≤ length out
 
 module _ (s : List ℕ) (x : Context) (out : List ℕ) where
   told-alone : (n : ℕ) → In n s → Told s x out (alone n x out)
-  told-alone n h = record { answers = inr h; kept = λ a b. (refl, refl, refl); behind = refl; room = refl }
+  told-alone n h = record { answers = inr h; kept = λ a b. (refl, refl, refl); behind = refl; room = refl; within = omega arith }
 
   -- a success, or 8
   told-over : (v : Values) (y : Context) (octets : List ℕ) → (v .number ≡ 0) ⊎ ((v .number ≡ 8) × In 8 s) → v .wrote ≡ length octets
@@ -65,6 +68,7 @@ module _ (s : List ℕ) (x : Context) (out : List ℕ) where
         kept = λ a b. elim number [ inl e ↦ absurd (a e) | inr e ↦ absurd (b (e .0)) ];
         behind = rw wrote (drop-append-seam octets (drop (length octets) out));
         room = simp (length-append, length-drop) (omega arith);
+        within = omega arith;
       }
 
   told-sends : (p : ℕ) (made : ℕ → List ℕ) → length (made (nextAt x p)) ≤ length out → Told s x out (sends x p made out)
@@ -111,7 +115,7 @@ s1-long x ncc ngksi =
 
 told-passes : (k : Call) (x : Context) → refusalOf k x ≡ 0 → Told (numbersOf (call k)) x (lent k) (passes k x)
 unfolding sealRefusal opaqueRefusal openRefusal sealEpsRefusal openEpsRefusal s1ToN1Refusal opened handed epsOpened epsHanded
-told-passes (setWindow n) x e = record { answers = inl refl; kept = λ a b. absurd (a refl); behind = refl; room = refl }
+told-passes (setWindow n) x e = record { answers = inl refl; kept = λ a b. absurd (a refl); behind = refl; room = refl; within = omega arith }
 told-passes (seal5gs t d k inner out) x e =
     let p = placeOf d k in
     let h : 7 + length inner ≤ length out = fits-room (sealRefusals x t p (directionNo d) inner (length out)) 6 (length out) (7 + length inner) e refl in
@@ -140,7 +144,7 @@ told-passes (openEps m out) x e =
     let h : length m - 6 ≤ length out = fits-room (openEpsRefusals x m (length out)) 4 (length out) (length m - 6) e refl in
     told-received s x out epsOpenValues eps.Refused (epsAs x m out) (λ c. drop 6 m) (eps-answering x m out) epsPlace (epsFound x m out)
     (λ n. refl) (there 6 s refl) (there 7 s refl) (there 8 s refl) (λ c. omega (arith, length-drop 6 m))
-told-passes makeN1ToS1 x e = record { answers = inl refl; kept = λ a b. absurd (a refl); behind = refl; room = refl }
+told-passes makeN1ToS1 x e = record { answers = inl refl; kept = λ a b. absurd (a refl); behind = refl; room = refl; within = omega arith }
 told-passes (verifyN1ToS1 n) x e =
     let s = numbersOf (call (verifyN1ToS1 n)) in told-octet s x n (octetFound x n) (there 6 s refl) (octet-not-wrong x n)
 told-passes (makeS1ToN1 ncc ngksi out) x e =
@@ -165,7 +169,7 @@ told-reselect x i c ik ck = go (eqb (first (faultOf x ∷ 13 when unbuilt i c �
         → Told (13 ∷ 14 ∷ 16 ∷ []) x [] (outcome changeValues (
         cond t (leaves change.Done (record { core = coreWith i c ik ck (x .core .size); records = x .records }) [])
         (leaves (change.Refused (first (faultOf x ∷ 13 when unbuilt i c ∷ []))) x [])))
-    go true e = record { answers = inl refl; kept = λ a b. absurd (a refl); behind = refl; room = refl }
+    go true e = record { answers = inl refl; kept = λ a b. absurd (a refl); behind = refl; room = refl; within = omega arith }
     go false e =
         told-alone (13 ∷ 14 ∷ 16 ∷ []) x [] (first (faultOf x ∷ 13 when unbuilt i c ∷ []))
         (reselect-listed x i c (eqb-false (first (faultOf x ∷ 13 when unbuilt i c ∷ [])) 0 e))
@@ -183,7 +187,7 @@ fault-told (reselect i c ik ck) x f = simp (ne-eqb (faultOf x) 0 f)
 pub demand1 : (k : Any) (x : Context) → Demand1 k x
 demand1 k x =
     let t = told-any k x in
-    record { answers = t .answers; kept = t .kept; behind = t .behind; room = t .room; fault = fault-told k x }
+    record { answers = t .answers; kept = t .kept; behind = t .behind; room = t .room; within = t .within; fault = fault-told k x }
 
 -- what an open call hands over
 module _ {A : Type 0} (v : A → Values) (no′ yes′ : ℕ → A) (plain-of : ℕ → List ℕ) (a : Answering v no′ yes′ plain-of) (alike : (n : ℕ) → v (no′ n) ≡ refusal n)
@@ -241,7 +245,7 @@ module _ (x : Context) where
   octet-uses n (Late c) never u = absurd (never c refl)
   octet-uses n (Forward c) never u = inl refl
 
-  octet-never-late : (n c : ℕ) → octetFound x n ≡ Late c → ⊥
+  pub octet-never-late : (n c : ℕ) → octetFound x n ≡ Late c → ⊥
   unfolding forwardOnly
   octet-never-late n c e = never (answers (λ c′. true) Nothing (forwardOf 8 (wraps (x .core)) (recordAt x containerPlace) n) (Late c) .0 e .0)
 
@@ -331,18 +335,26 @@ eps-carries x m out (Forward c) h = go (notEps (drop 6 m)) h
     go false e = absurd (omega arith)
 
 module _ (x : Context) where
+  opens-5gs : (d : Direction) (k : Connection) (m out : List ℕ)
+      → let o = gives (open5gs d k m out) x in Opened o → HandsOver x (placeOf d k) (plain5gs x d k m) out o
+  opens-5gs d k m out h =
+      let b = bearerNo k in let f = directionNo d in let p = placeOf d k in
+      let e = open-left x d k m out (opened-passed (open5gs d k m out) x h) in
+      rw e (hands openValues open′.Refused (openedAs x p b f m out) (plain x p b f m out) (open-answering x p b f m out) (λ n. refl) x p out (found x p b f m out)
+      (subst Opened e h))
+
   pub demand1-open : Demand1Open x
   demand1-open =
       record {
-        opens = λ d k m out h.
-            let b = bearerNo k in let f = directionNo d in let p = placeOf d k in
-            let e = open-left x d k m out (opened-passed (open5gs d k m out) x h) in
-            rw e (hands openValues open′.Refused (openedAs x p b f m out) (plain x p b f m out) (open-answering x p b f m out) (λ n. refl) x p out (found x p b f m out)
-            (subst Opened e h));
+        opens = opens-5gs;
         tells = λ d k m out h.
             let b = bearerNo k in let f = directionNo d in let p = placeOf d k in
             let e = open-left x d k m out (opened-passed (open5gs d k m out) x h) in
             rw e (tells-left x p b f m out (found x p b f m out) (subst Opened e h));
+        wrote = λ d k m out h.
+            let b = bearerNo k in let f = directionNo d in
+            let c = gives (open5gs d k m out) x .values .count in
+            opens-5gs d k m out h .wrote ∙ payload-length (x .core) c b f (drop 7 m) (ciphers (typeOf m)) ∙ length-drop 7 m;
         carries = λ d k m out h.
             let b = bearerNo k in let f = directionNo d in let p = placeOf d k in
             let e = open-left x d k m out (opened-passed (open5gs d k m out) x (inr h)) in
@@ -360,37 +372,63 @@ refused-fault : faultOf refusedContext ≡ 13
 unfolding faultOf coreFault unbuilt isBuilt
 refused-fault = refl
 
-create-told : (i c : ℕ) (ik ck : List ℕ) → let o = makes (create i c ik ck) in
-    (o .values ≡ refusal 0) ⊎ ((o .values ≡ refusal 13) × (o .context ≡ refusedContext))
-unfolding newOf
-create-told i c ik ck = go (unbuilt i c)
+-- a test of the codes
+not-both : (i c : ℕ) → (Built i c → ⊥) → unbuilt i c ≡ true
+unfolding unbuilt
+not-both i c h = go (isBuilt i) (isBuilt c) refl refl
   where
-    go : (t : Bool) →
-        let n = first (13 when t ∷ []) in
-        let o = outcome changeValues (refusedOr n (λ j. leaves (change.Refused j) refusedContext []) (leaves change.Done (contextWith i c ik ck (replicate 4 0)) [])) in
-        (o .values ≡ refusal 0) ⊎ ((o .values ≡ refusal 13) × (o .context ≡ refusedContext))
-    go true = inr (refl, refl)
-    go false = inl refl
+    go : (a b : Bool) → isBuilt i ≡ a → isBuilt c ≡ b → not a || not b ≡ true
+    go true true p q = absurd (h (p, q))
+    go true false p q = refl
+    go false b p q = refl
 
-restore-told : (i c : ℕ) (ik ck next : List ℕ) → let o = makes (restore i c ik ck next) in
-    (o .values ≡ refusal 0) ⊎ (((o .values ≡ refusal 13) ⊎ (o .values ≡ refusal 16)) × (o .context ≡ refusedContext))
-unfolding restoreOf
-restore-told i c ik ck next = go (unbuilt i c) (anyOver (four (λ p. getD next p 0)))
-  where
-    go : (t s : Bool) →
-        let n = first (13 when t ∷ 16 when s ∷ []) in
-        let o = outcome changeValues (refusedOr n (λ j. leaves (change.Refused j) refusedContext []) (leaves change.Done (contextWith i c ik ck next) [])) in
-        (o .values ≡ refusal 0) ⊎ (((o .values ≡ refusal 13) ⊎ (o .values ≡ refusal 16)) × (o .context ≡ refusedContext))
-    go true s = inr (inl refl, refl)
-    go false true = inr (inr refl, refl)
-    go false false = inl refl
+pub both : (i c : ℕ) → Built i c → unbuilt i c ≡ false
+unfolding unbuilt
+both i c h = simp (h .0, h .1)
+
+-- four next COUNTs, all within bounds or one over them
+none-over : (next : List ℕ) → ((p : ℕ) → p < 4 → getD next p 0 ≤ exhausted) → anyOver (four (λ p. getD next p 0)) ≡ false
+none-over next h =
+    simp (
+      le-ltb exhausted (getD next 0 0) (h 0 (omega arith)),
+      le-ltb exhausted (getD next 1 0) (h 1 (omega arith)),
+      le-ltb exhausted (getD next 2 0) (h 2 (omega arith)),
+      le-ltb exhausted (getD next 3 0) (h 3 (omega arith)),
+    )
+
+over-somewhere : (l : List ℕ) (p : ℕ) → exhausted < getD l p 0 → anyOver l ≡ true
+over-somewhere [] p h = absurd (omega arith)
+over-somewhere (n ∷ l) zero h = simp (lt-ltb exhausted n h)
+over-somewhere (n ∷ l) (suc p) h = or-right (ltb exhausted n) (anyOver l) (over-somewhere l p h)
+
+four-at : (next : List ℕ) (p : ℕ) → p < 4 → getD (four (λ q. getD next q 0)) p 0 ≡ getD next p 0
+four-at next zero h = refl
+four-at next (suc zero) h = refl
+four-at next (suc (suc zero)) h = refl
+four-at next (suc (suc (suc zero))) h = refl
+four-at next (suc (suc (suc (suc p)))) h = absurd (omega arith)
 
 pub demand1-making : Demand1Making
+unfolding newOf restoreOf
 demand1-making =
     record {
-      created = λ i c ik ck. create-told i c ik ck;
-      restored = λ i c ik ck next. restore-told i c ik ck next;
+      created = λ i c ik ck h. rw (both i c h);
+      not-created = λ i c ik ck h. rw (not-both i c h);
+      restored = λ i c ik ck next h low. rw (both i c h, none-over next low);
+      not-restored = λ i c ik ck next h. rw (not-both i c h);
+      over-restored = λ i c ik ck next p h low high.
+          rw (both i c h, over-somewhere (four (λ q. getD next q 0)) p (subst (λ (n : ℕ). exhausted < n) (sym (four-at next p low)) high));
       refuses = λ k.
           let e = refused-fault in
           fault-told k refusedContext (λ z. omega arith) ∙ ap refusal e;
+    }
+
+pub demand1-changes : (x : Context) (faultless : faultOf x ≡ 0) → Demand1Changes x faultless
+unfolding reselectOf windowOf
+demand1-changes x faultless =
+    record {
+      reselected = λ i c ik ck h. rw (faultless, both i c h);
+      not-reselected = λ i c ik ck h. rw (faultless, not-both i c h);
+      sized = λ n h. rw (faultless, le-ltb 64 n h);
+      not-sized = λ n h. rw (faultless, lt-ltb 64 n h);
     }

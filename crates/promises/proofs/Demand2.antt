@@ -1,4 +1,4 @@
--- Demand 2: the round trip, containers, estimates.
+-- Demand 2: what a seal writes, and the round trip.
 use Prim.Native.Nat.{ℕ, _+_, _≤_, _<_}
 use mathlib.Core.Path.{_≡_, refl, sym, ap, _∙_, subst}
 use mathlib.Core.Bool.{Bool, true, false, _||_}
@@ -29,34 +29,52 @@ use Rattle.nas_5gs.specs.Envelope.{wrongType, ciphers, envelope}
 use Rattle.nas_5gs.specs.Seal.{sealRefusals, sealRefusal, opaqueRefusals, opaqueRefusal}
 use Rattle.nas_5gs.specs.Open.{typeOf}
 use Rattle.nas_5gs.specs.Eps.{epsPlace, notEps, epsMessage, sealEpsRefusals, sealEpsRefusal}
-use Rattle.promises.specs.Calls.{Call, seal5gs, sealOpaque, open5gs, sealEps, openEps, Outcome, gives}
+use Rattle.nas_5gs.specs.Containers.{containerPlace, s1ToN1}
+use Rattle.promises.specs.Calls.{Call, seal5gs, sealOpaque, open5gs, sealEps, openEps, makeN1ToS1, makeS1ToN1, Outcome, gives}
 use Rattle.promises.specs.Words.{SameKeys, TakenAs, Succeeds, Uses, written}
-use Rattle.promises.specs.Demand2.{Accepts, Writes, RoundTrip}
+use Rattle.promises.specs.Demand2.{Writes, RoundTrip}
 use Rattle.promises.proofs.Shapes.{refusalOf, found, plain, openedAs, epsFound, epsAs}
 use Rattle.promises.proofs.Passing.{passes, sends, gives-passed, uses-passed}
 use Rattle.promises.proofs.Numbers.{not-there}
 use Rattle.promises.proofs.Opening.{eps-sealed, envelope-same, eps-same}
-use Rattle.promises.proofs.Taking.{left, names, takes-taken, open-answering, eps-answering, open-left, eps-left, envelope-type, envelope-back}
-use Rattle.promises.proofs.Demand1.{opened-passed, demand1-open}
+use Rattle.promises.proofs.Taking.{left, names, takes-taken, open-answering, eps-answering, open-left, eps-left, envelope-type, envelope-long, envelope-back}
+use Rattle.promises.proofs.Demand1.{opened-passed, s1-long, demand1-open}
 
 -- what a send writes
 pub sent-is : (x : Context) (p : ℕ) (made : ℕ → List ℕ) (out : List ℕ)
-    → let s = sends x p made out in Uses s (nextAt x p) × (written s ≡ made (s .values .count))
+    → let s = sends x p made out in
+    Uses s (nextAt x p) × (written s ≡ made (s .values .count)) × (s .values .wrote ≡ length (made (s .values .count)))
 unfolding useNext
-sent-is x p made out = ((refl, refl), take-append-seam (made (nextAt x p)) (drop (length (made (nextAt x p))) out))
+sent-is x p made out = ((refl, refl), take-append-seam (made (nextAt x p)) (drop (length (made (nextAt x p))) out), refl)
 
 module _ (k : Call) (z : Context) (p : ℕ) (made : ℕ → List ℕ) (out : List ℕ) (shape : passes k z ≡ sends z p made out) where
-  pub writes-by : Succeeds (gives k z) → Uses (gives k z) (nextAt z p) × (written (gives k z) ≡ made (gives k z .values .count))
+  pub writes-by : Succeeds (gives k z)
+      → let s = gives k z in
+      Uses s (nextAt z p) × (written s ≡ made (s .values .count)) × (s .values .wrote ≡ length (made (s .values .count)))
   writes-by h =
       rw (gives-passed k z (opened-passed k z (inl h)), shape) (sent-is z p made out)
 
 pub writes : (z : Context) → Writes z
 writes z =
     record {
-      seal = λ t d k inner out h. writes-by (seal5gs t d k inner out) z (placeOf d k) (λ c. envelope (z .core) t c (bearerNo k) (directionNo d) inner) out refl h;
-      opaque = λ t d k inner out h. writes-by (sealOpaque t d k inner out) z (placeOf d k) (λ c. envelope (z .core) t c (bearerNo k) (directionNo d) inner) out refl h;
-      eps = λ inner out h. writes-by (sealEps inner out) z epsPlace (λ c. epsMessage (z .core) c inner) out refl h;
+      seal = λ t d k inner out h. enveloped (seal5gs t d k inner out) t d k inner out refl h;
+      opaque = λ t d k inner out h. enveloped (sealOpaque t d k inner out) t d k inner out refl h;
+      eps = λ inner out h.
+          let w = writes-by (sealEps inner out) z epsPlace (λ c. epsMessage (z .core) c inner) out refl h in
+          (w .0, w .1, w .2 ∙ eps-sealed (z .core) (gives (sealEps inner out) z .values .count) inner .long);
+      s1ToN1 = λ ncc ngksi out h.
+          let w = writes-by (makeS1ToN1 ncc ngksi out) z containerPlace (λ c. s1ToN1 (z .core) ncc ngksi) out refl h in
+          (w .0, w .1, w .2 ∙ s1-long z ncc ngksi);
+      n1ToS1 = λ h. rw (gives-passed makeN1ToS1 z (opened-passed makeN1ToS1 z (inl h))) ((refl, refl), refl, refl);
     }
+  where
+    enveloped : (seal : Call) (t : ℕ) (d : Direction) (k : Connection) (inner out : List ℕ)
+        → passes seal z ≡ sends z (placeOf d k) (λ c. envelope (z .core) t c (bearerNo k) (directionNo d) inner) out → Succeeds (gives seal z)
+        → let s = gives seal z in
+        Uses s (nextAt z (placeOf d k)) × (written s ≡ envelope (z .core) t (s .values .count) (bearerNo k) (directionNo d) inner) × (s .values .wrote ≡ 7 + length inner)
+    enveloped seal t d k inner out shape h =
+        let w = writes-by seal z (placeOf d k) (λ c. envelope (z .core) t c (bearerNo k) (directionNo d) inner) out shape h in
+        (w .0, w .1, w .2 ∙ envelope-long (z .core) t (gives seal z .values .count) (bearerNo k) (directionNo d) inner)
 
 -- opening what was sealed, where it is taken as its COUNT
 module _ (x : Context) (d : Direction) (k : Connection) (t c : ℕ) (inner room : List ℕ) (from : 1 ≤ t) (to : t ≤ 4) where
@@ -128,7 +146,7 @@ module _ (x : Context) (c : ℕ) (inner room : List ℕ) where
       rw q (eps-number (ap notEps (eps-sealed (x .core) c inner .body-there) ∙ e) (epsFound x mEps room) (subst (λ (w : Outcome). Uses w c) q u .0))
 
 -- what a seal that succeeds has passed
-type-right : (t : ℕ) → wrongType t ≡ false → (1 ≤ t) × (t ≤ 4)
+pub type-right : (t : ℕ) → wrongType t ≡ false → (1 ≤ t) × (t ≤ 4)
 unfolding wrongType
 type-right t e = go (ltb t 1) (ltb 4 t) refl refl e
   where
@@ -137,7 +155,7 @@ type-right t e = go (ltb t 1) (ltb 4 t) refl refl e
     go false true p q h = let z : _≡_ {A = ℕ} 0 1 = cc in absurd (omega arith)
     go false false p q h = (ltb-false t 1 p, ltb-false 4 t q)
 
-look-passed : (t d : ℕ) (m : List ℕ) → notKnown m ≡ false → notTogether t m ≡ false → wrongWay d m ≡ false → lookOf t d m ≡ 0
+pub look-passed : (t d : ℕ) (m : List ℕ) → notKnown m ≡ false → notTogether t m ≡ false → wrongWay d m ≡ false → lookOf t d m ≡ 0
 unfolding lookOf
 look-passed t d m a b c = simp (a, b, c)
 
@@ -152,7 +170,7 @@ module _ (z : Context) (t : ℕ) (d : Direction) (k : Connection) (inner out : L
   pub seal-type : Succeeds (gives (seal5gs t d k inner out) z) → (1 ≤ t) × (t ≤ 4)
   seal-type h = type-right t (off 3 (wrongType t) (omega arith) (seal-passed h 2))
 
-  seal-look : Succeeds (gives (seal5gs t d k inner out) z) → lookOf t (directionNo d) inner ≡ 0
+  pub seal-look : Succeeds (gives (seal5gs t d k inner out) z) → lookOf t (directionNo d) inner ≡ 0
   seal-look h =
       look-passed t (directionNo d) inner (off 9 (notKnown inner) (omega arith) (seal-passed h 1))
       (off 10 (notTogether t inner) (omega arith) (seal-passed h 3)) (off 11 (wrongWay (directionNo d) inner) (omega arith) (seal-passed h 4))
@@ -203,39 +221,4 @@ returns z x keys =
           (λ (n : List ℕ). let o = gives (openEps n room) x in Succeeds o × TakenAs o c inner room)
           (sym e)
           (eps-succeeds x c inner room (eps-content z inner out h) u′, eps-trip x c inner room u′);
-    }
-
--- seals that succeed
-send-passes : (header n room next : ℕ) → n ≤ limit → next < exhausted → header + n ≤ room → first (sendRefusals header n room next) ≡ 0
-send-passes header n room next low left fit = simp (le-ltb limit n low, le-ltb room (header + n) fit, lt-leb exhausted next left)
-
-type-passes : (t : ℕ) → 1 ≤ t → t ≤ 4 → wrongType t ≡ false
-unfolding wrongType
-type-passes t from to = simp (le-ltb t 1 from, le-ltb 4 t to)
-
-sent-succeeds : (k : Call) (z : Context) (p : ℕ) (made : ℕ → List ℕ) (out : List ℕ) → passes k z ≡ sends z p made out → refusalOf k z ≡ 0 → Succeeds (gives k z)
-unfolding useNext
-sent-succeeds k z p made out shape e = rw (gives-passed k z e, shape)
-
-pub accepts : (z : Context) → Accepts z
-unfolding sealRefusal opaqueRefusal sealEpsRefusal lookOf
-accepts z =
-    record {
-      opaque = λ t d k inner out fault left from to low fit.
-          sent-succeeds (sealOpaque t d k inner out) z (placeOf d k) (λ c. envelope (z .core) t c (bearerNo k) (directionNo d) inner) out refl
-          (simp (fault, type-passes t from to) (send-passes 7 (length inner) (length out) (nextAt z (placeOf d k)) low left fit));
-      seal = λ t d k inner out fault left from to low fit look.
-          let l = passed (lookRefusals t (directionNo d) inner) look in
-          sent-succeeds (seal5gs t d k inner out) z (placeOf d k) (λ c. envelope (z .core) t c (bearerNo k) (directionNo d) inner) out refl
-          (simp (
-            fault,
-            type-passes t from to,
-            off 9 (notKnown inner) (omega arith) (l 0),
-            off 10 (notTogether t inner) (omega arith) (l 1),
-            off 11 (wrongWay (directionNo d) inner) (omega arith) (l 2),
-          )
-          (send-passes 7 (length inner) (length out) (nextAt z (placeOf d k)) low left fit));
-      eps = λ inner out fault left low fit right.
-          sent-succeeds (sealEps inner out) z epsPlace (λ c. epsMessage (z .core) c inner) out refl
-          (simp (fault, right) (send-passes 6 (length inner) (length out) (nextAt z epsPlace) low left fit));
     }

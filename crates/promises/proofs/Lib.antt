@@ -10,6 +10,7 @@ pub mod Faults
 pub mod Demand1
 pub mod Demand2
 pub mod Containers
+pub mod Accepting
 pub mod Demand3
 pub mod Delivery
 pub mod Null

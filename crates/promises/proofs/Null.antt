@@ -5,7 +5,7 @@ use mathlib.Core.Bool.{Bool, true}
 use mathlib.Core.Logic.{inr}
 use mathlib.Core.List.{List, [], _∷_}
 use native.Mathlib.Omega.{arith}
-use lib.ListN.{getD}
+use lib.ListN.{getD, drop}
 use borrow.Author.Tests.{eqb-true, ne-eqb}
 use Rattle.count.specs.declared.Opening.{Opening}
 use Rattle.count.specs.declared.Opening.the-variants.{Late, Forward, None, Wrong}
@@ -20,16 +20,18 @@ use Rattle.nas_core.specs.Keyed.{wraps, codeBy}
 use Rattle.nas_core.specs.Verify.{fits, verifyOf}
 use Rattle.nas_5gs.specs.declared.Context.{Context}
 use Rattle.nas_5gs.specs.declared.OpenAnswer.the-variants as open′
+use Rattle.nas_5gs.specs.declared.EpsOpenAnswer.the-variants as eps
 use Rattle.nas_5gs.specs.Places.{directionNo, bearerNo, placeOf, recordAt, nextAt}
-use Rattle.nas_5gs.specs.Leaves.{openValues}
+use Rattle.nas_5gs.specs.Leaves.{openValues, epsOpenValues}
 use Rattle.nas_5gs.specs.Eps.{epsPlace, epsBearer, epsDirection}
-use Rattle.nas_5gs.specs.Containers.{containerPlace}
+use Rattle.nas_5gs.specs.Containers.{containerPlace, containerBearer, containerDirection, s1Count}
 use Rattle.promises.specs.Calls.{Call, setWindow, seal5gs, sealOpaque, open5gs, sealEps, openEps, makeN1ToS1, verifyN1ToS1, makeS1ToN1, verifyS1ToN1, gives, placeIn}
 use Rattle.promises.specs.Words.{recordOf, Uses}
 use Rattle.promises.specs.Null.{NullHolds}
-use Rattle.promises.proofs.Shapes.{next, refusalOf, passing, does, acts, found, plain, openedAs}
+use Rattle.promises.proofs.Shapes.{next, refusalOf, passing, does, acts, found, plain, openedAs, epsFound, epsAs}
 use Rattle.promises.proofs.Soundness.{Four, if-passed, own-after}
-use Rattle.promises.proofs.Taking.{named, open-answering, open-left}
+use Rattle.promises.proofs.Taking.{named, open-answering, eps-answering, open-left, eps-left}
+use Rattle.promises.proofs.Containers.{verify-passes, verified}
 
 -- a use, if there is one, goes round
 abbrev Round : Act → Type 0
@@ -96,23 +98,26 @@ module _ (x : Context) (w : wraps (x .core) ≡ true) where
   code-zero c b d m =
       let z = eqb-true (x .core .integrity) 0 w in rw (ne-eqb (x .core .integrity) 2 (λ e. omega arith))
 
--- what an open call finds
-module _ (x : Context) (w : wraps (x .core) ≡ true) (p b d : ℕ) (m out : List ℕ) where
+-- what an open call of a message finds whose code begins at octet q, on the record at p
+module _ (x : Context) (w : wraps (x .core) ≡ true) (p b d q : ℕ) (m : List ℕ) where
   abbrev fit : ℕ → Bool
-  fit c = fits (x .core) c b d 2 m
+  fit c = fits (x .core) c b d q m
 
   abbrev candidate : ℕ
-  candidate = (nextAt x p + distance 8 (nextAt x p) (getD m 6 0)) % exhausted
+  candidate = (nextAt x p + distance 8 (nextAt x p) (getD m (q + 4) 0)) % exhausted
 
-  found-round : nextAt x p < exhausted → found x p b d m out ≡ Forward candidate
+  abbrev taken : Opening
+  taken = verifyOf (x .core) (recordAt x p) b d q m
+
+  found-round : nextAt x p < exhausted → taken ≡ Forward candidate
   unfolding forwardOnly
   found-round h =
-      verify-only x w p b d 2 m
-      ∙ answers fit Nothing (forwardOf 8 true (recordAt x p) (getD m 6 0)) (Forward candidate) .1
-      ((λ c e. never e), null 8 fit (recordOf p x) (getD m 6 0) .goes-round h, fits-all x w b d 2 m candidate)
+      verify-only x w p b d q m
+      ∙ answers fit Nothing (forwardOf 8 true (recordAt x p) (getD m (q + 4) 0)) (Forward candidate) .1
+      ((λ c e. never e), null 8 fit (recordOf p x) (getD m (q + 4) 0) .goes-round h, fits-all x w b d q m candidate)
 
-  found-none : exhausted ≤ nextAt x p → found x p b d m out ≡ None
-  found-none h = verify-only x w p b d 2 m ∙ null 8 fit (recordOf p x) (getD m 6 0) .stays-exhausted h
+  found-none : exhausted ≤ nextAt x p → taken ≡ None
+  found-none h = verify-only x w p b d q m ∙ null 8 fit (recordOf p x) (getD m (q + 4) 0) .stays-exhausted h
 
 pub null-holds : NullHolds
 null-holds x w =
@@ -122,8 +127,16 @@ null-holds x w =
           let b = bearerNo k in let f = directionNo d in let p = placeOf d k in
           rw (open-left x d k m out e)
           (named openValues open′.Refused (openedAs x p b f m out) (plain x p b f m out) (open-answering x p b f m out) x p out (found x p b f m out)
-          (candidate x w p b f m out) (inr (found-round x w p b f m out h)));
+          (candidate x w p b f 2 m) (inr (found-round x w p b f 2 m h)));
       stays-exhausted = λ d k m out e h.
-          rw (open-left x d k m out e, found-none x w (placeOf d k) (bearerNo k) (directionNo d) m out h);
+          rw (open-left x d k m out e, found-none x w (placeOf d k) (bearerNo k) (directionNo d) 2 m h);
+      passes-eps = λ m out e h.
+          rw (eps-left x m out e)
+          (named epsOpenValues eps.Refused (epsAs x m out) (λ c. drop 6 m) (eps-answering x m out) x epsPlace out (epsFound x m out)
+          (candidate x w epsPlace epsBearer epsDirection 1 m) (inr (found-round x w epsPlace epsBearer epsDirection 1 m h)));
+      stays-exhausted-eps = λ m out e h.
+          rw (eps-left x m out e, found-none x w epsPlace epsBearer epsDirection 1 m h);
+      passes-s1 = λ v fault long short same left.
+          verified x v (verify-passes x v fault long short same left (fits-all x w containerBearer containerDirection 0 v s1Count)) .0;
       uses = λ k c four on u. uses-round x w k c four on u;
     }

@@ -37,7 +37,7 @@ or-either n a b e = go (eqb n a) refl e
     go true q h = inl (eqb-true n a q)
     go false q h = inr h
 
-or-right : (t b : Bool) → b ≡ true → t || b ≡ true
+pub or-right : (t b : Bool) → b ≡ true → t || b ≡ true
 or-right true b e = refl
 or-right false b e = e
 

@@ -14,7 +14,7 @@ use Rattle.nas_5gs.specs.declared.OpenAnswer.the-variants as open′
 use Rattle.nas_5gs.specs.declared.EpsOpenAnswer.the-variants as eps
 use Rattle.nas_5gs.specs.declared.OctetAnswer.the-variants as octet
 use Rattle.nas_5gs.specs.Places.{directionNo, bearerNo, placeOf, nextAt}
-use Rattle.nas_5gs.specs.Leaves.{Leaves, leaves, useNext, received, Values, refusal, changeValues, useValues, openValues, epsOpenValues, octetValues}
+use Rattle.nas_5gs.specs.Leaves.{Leaves, leaves, useNext, received, Values, refusal, success, changeValues, useValues, openValues, epsOpenValues, octetValues}
 use Rattle.nas_5gs.specs.Changes.{resized, windowOf}
 use Rattle.nas_5gs.specs.Envelope.{envelope}
 use Rattle.nas_5gs.specs.Seal.{sent, sealOf, sealOpaqueOf}
@@ -28,7 +28,7 @@ abbrev pub sends : Context → ℕ → (ℕ → List ℕ) → List ℕ → Outco
 sends x p made out = outcome useValues (useNext x p made out)
 
 abbrev pub passes : Call → Context → Outcome
-passes (setWindow n) x = record { values = refusal 0; context = resized x n; output = [] }
+passes (setWindow n) x = record { values = success; context = resized x n; output = [] }
 passes (seal5gs t d k inner out) x = sends x (placeOf d k) (λ c. envelope (x .core) t c (bearerNo k) (directionNo d) inner) out
 passes (sealOpaque t d k inner out) x = sends x (placeOf d k) (λ c. envelope (x .core) t c (bearerNo k) (directionNo d) inner) out
 passes (open5gs d k m out) x = outcome openValues (opened x (placeOf d k) (bearerNo k) (directionNo d) m out)

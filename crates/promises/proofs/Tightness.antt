@@ -1,41 +1,128 @@
 -- No second answer fits, and wrong contexts do not keep demand 3.
-use Prim.Native.Nat.{ℕ, _≤_, _<_}
+use Prim.Native.Nat.{ℕ, _-_, _%_, _≤_, _<_}
 use mathlib.Core.Path.{_≡_, refl, sym, ap, _∙_, subst}
-use mathlib.Core.Bool.{true, false}
-use mathlib.Core.Logic.{inl, inr}
+use mathlib.Core.Bool.{Bool, true, false, cond}
+use mathlib.Core.Logic.{inl, inr, ⊎-elim}
 use mathlib.Core.List.{List, [], _∷_, zipWith}
 use native.Mathlib.Omega.{arith}
-use lib.ListN.{replicate}
+use lib.ListN.{getD, replicate}
 use Rattle.aes.specs.Field.{xTimes, times, timesBits, squares, inverse, affine, sbox}
 use Rattle.aes.specs.Cipher.{toState, fromState, subBytes, shiftRows, mixColumns, word, addRoundKey, rounds, cipher, rcon, turned, nextWord, words, expandKey}
 use Rattle.aes.specs.Counter.{counter, keystream, ctrOf}
 use Rattle.aes.specs.Nas.{head, nea2Of}
 use Rattle.algorithms.specs.Codes.{isBuilt}
-use Rattle.count.specs.Rule.{useForward, resizeOf}
+use Rattle.count.specs.declared.Record.{Record}
+use Rattle.count.specs.declared.Candidate.the-variants.{At}
+use Rattle.count.specs.Rule.{forwardOf, lateOf, useForward, resizeOf}
 use Rattle.count.specs.Run.{State, Act, stay, uses, forward, late as lateUse, round, resize, act, used, Valid, In, NoneTwice}
-use Rattle.count.proofs.Candidates.{clash}
+use Rattle.count.proofs.Distance.{distance-ends}
+use Rattle.count.proofs.Candidates.{clash, forward-found, at-open, late-found}
 use Rattle.count.proofs.Law.{to-clear}
 use Rattle.nas_core.specs.Refusals.{unbuilt}
+use Rattle.nas_core.specs.Keyed.{wraps}
 use Rattle.nas_core.specs.Verify.{fits}
 use Rattle.nas_5gs.specs.declared.Context.{Context}
+use Rattle.nas_5gs.specs.declared.ChangeAnswer.{ChangeAnswer}
+use Rattle.nas_5gs.specs.declared.ChangeAnswer.the-variants as change
+use Rattle.nas_5gs.specs.declared.UseAnswer.{UseAnswer}
+use Rattle.nas_5gs.specs.declared.UseAnswer.the-variants as use′
+use Rattle.nas_5gs.specs.declared.OpenAnswer.{OpenAnswer}
+use Rattle.nas_5gs.specs.declared.OpenAnswer.the-variants as open′
+use Rattle.nas_5gs.specs.declared.EpsOpenAnswer.{EpsOpenAnswer}
+use Rattle.nas_5gs.specs.declared.EpsOpenAnswer.the-variants as eps
+use Rattle.nas_5gs.specs.declared.OctetAnswer.{OctetAnswer}
+use Rattle.nas_5gs.specs.declared.OctetAnswer.the-variants as octet
 use Rattle.nas_5gs.specs.declared.Direction.the-variants.{Uplink}
 use Rattle.nas_5gs.specs.declared.Connection.the-variants.{ThreeGpp}
-use Rattle.nas_5gs.specs.Places.{nextAt}
+use Rattle.nas_5gs.specs.Places.{placeOf, recordAt, nextAt}
+use Rattle.nas_5gs.specs.Leaves.{Leaves, leaves, Values, changeValues, useValues, openValues, epsOpenValues, octetValues}
 use Rattle.nas_5gs.specs.Changes.{contextWith, resized, newOf}
 use Rattle.nas_5gs.specs.Envelope.{envelope}
-use Rattle.promises.specs.Calls.{Call, setWindow, open5gs, Outcome, gives, usedBy, contextAfter, countsUsed}
+use Rattle.promises.specs.Calls.{Call, setWindow, seal5gs, sealOpaque, open5gs, sealEps, openEps, makeN1ToS1, verifyN1ToS1, makeS1ToN1, verifyS1ToN1, Any, call, reselect, Making, Outcome, outcome, gives, givesAny, makes, usedBy, contextAfter, countsUsed}
 use Rattle.promises.specs.Words.{recordOf, TakenAs}
+use Rattle.promises.specs.Demand2.{Estimates}
 use Rattle.promises.specs.Demand3.{Fresh, StillOpen, Opens, Keeps}
-use Rattle.promises.specs.Tightness.{OnlyOne, RefusesAll, OpensAsNext, LeavesStill, Invents, NeverLate, AsInP6, p6Calls, Tightness}
+use Rattle.promises.specs.Tightness.{AnswerOf, Meets, OnlyOne, RefusesAll, OpensAsNext, LeavesStill, Invents, NeverLate, AsInP6, p6Calls, Tightness}
 use Rattle.promises.proofs.Shapes.{does, acts, same-keys}
 use Rattle.promises.proofs.Soundness.{does-valid, own-after}
 use Rattle.promises.proofs.Passing.{passes, gives-passed}
 use Rattle.promises.proofs.Taking.{no-fault}
 use Rattle.promises.proofs.Demand3.{started, good-now, keeps}
-use Rattle.promises.proofs.Opening.{envelope-sealed}
+
+-- an answer is read back from its values
+abbrev changeRead : Values → ChangeAnswer
+changeRead v = cond (v .refused) (change.Refused (v .number)) change.Done
+
+change-back : (a : ChangeAnswer) → changeRead (changeValues a) ≡ a
+change-back (change.Refused n) = refl
+change-back change.Done = refl
+
+abbrev useRead : Values → UseAnswer
+useRead v = cond (v .refused) (use′.Refused (v .number)) (use′.Used (v .count) (v .wrote))
+
+use-back : (a : UseAnswer) → useRead (useValues a) ≡ a
+use-back (use′.Refused n) = refl
+use-back (use′.Used c w) = refl
+
+abbrev openRead : Values → OpenAnswer
+openRead v =
+    cond (v .uses)
+    (cond (v .refused) (open′.Content (v .count) (v .wrote) (v .header) (v .carried)) (open′.Accepted (v .count) (v .wrote) (v .header)))
+    (open′.Refused (v .number))
+
+open-back : (a : OpenAnswer) → openRead (openValues a) ≡ a
+open-back (open′.Refused n) = refl
+open-back (open′.Accepted c w t) = refl
+open-back (open′.Content c w t n) = refl
+
+abbrev epsRead : Values → EpsOpenAnswer
+epsRead v =
+    cond (v .uses) (cond (v .refused) (eps.Content (v .count) (v .wrote) (v .carried)) (eps.Accepted (v .count) (v .wrote))) (eps.Refused (v .number))
+
+eps-back : (a : EpsOpenAnswer) → epsRead (epsOpenValues a) ≡ a
+eps-back (eps.Refused n) = refl
+eps-back (eps.Accepted c w) = refl
+eps-back (eps.Content c w n) = refl
+
+abbrev octetRead : Values → OctetAnswer
+octetRead v = cond (v .refused) (octet.Refused (v .number)) (octet.Made (v .count) (v .octet))
+
+octet-back : (a : OctetAnswer) → octetRead (octetValues a) ≡ a
+octet-back (octet.Refused n) = refl
+octet-back (octet.Made c o) = refl
+
+-- so an outcome fixes what was left
+module _ {A : Type 0} (v : A → Values) (read : Values → A) (back : (a : A) → read (v a) ≡ a) where
+  abbrev leftIn : Outcome → Leaves A
+  leftIn o = leaves (read (o .values)) (o .context) (o .output)
+
+  left-back : (l : Leaves A) → leftIn (outcome v l) ≡ l
+  left-back (leaves a x out) = ap (λ (a′ : A). leaves a′ x out) (back a)
+
+  one-left : (o : Outcome) (l l′ : Leaves A) → outcome v l ≡ o → outcome v l′ ≡ o → l ≡ l′
+  one-left o l l′ p q = sym (left-back l) ∙ ap leftIn (p ∙ sym q) ∙ left-back l′
+
+one-used : (o : Outcome) (l l′ : Leaves UseAnswer) → outcome useValues l ≡ o → outcome useValues l′ ≡ o → l ≡ l′
+one-used = one-left useValues useRead use-back
+
+one-changed : (o : Outcome) (l l′ : Leaves ChangeAnswer) → outcome changeValues l ≡ o → outcome changeValues l′ ≡ o → l ≡ l′
+one-changed = one-left changeValues changeRead change-back
+
+one-only : (k : Any) (x : Context) (l l′ : Leaves (AnswerOf k)) → Meets k x l → Meets k x l′ → l ≡ l′
+one-only (call (setWindow n)) x = one-changed (gives (setWindow n) x)
+one-only (call (seal5gs t d k inner out)) x = one-used (gives (seal5gs t d k inner out) x)
+one-only (call (sealOpaque t d k inner out)) x = one-used (gives (sealOpaque t d k inner out) x)
+one-only (call (open5gs d k m out)) x = one-left openValues openRead open-back (gives (open5gs d k m out) x)
+one-only (call (sealEps inner out)) x = one-used (gives (sealEps inner out) x)
+one-only (call (openEps m out)) x = one-left epsOpenValues epsRead eps-back (gives (openEps m out) x)
+one-only (call makeN1ToS1) x = one-left octetValues octetRead octet-back (gives makeN1ToS1 x)
+one-only (call (verifyN1ToS1 s)) x = one-used (gives (verifyN1ToS1 s) x)
+one-only (call (makeS1ToN1 ncc ngksi out)) x = one-used (gives (makeS1ToN1 ncc ngksi out) x)
+one-only (call (verifyS1ToN1 v)) x = one-used (gives (verifyS1ToN1 v) x)
+one-only (reselect i c ik ck) x = one-changed (givesAny (reselect i c ik ck) x)
 
 pub only-one : OnlyOne
-only-one A l a a′ x x′ out out′ p q = ((cc), (cc), (cc))
+only-one = record { calls = one-only; makings = λ m. one-changed (makes m) }
 
 -- a fresh context with integrity code 2, and a message of one octet
 abbrev zeros : List ℕ
@@ -74,21 +161,6 @@ module _ (G : Call → Context → Outcome) (keeps : Keeps G) where
   refused : RefusesAll G → ⊥
   refused r = clash (taken-first 0 (omega arith) .uses) (r x Uplink ThreeGpp (message 0) one)
 
-  as-next : OpensAsNext G → ⊥
-  as-next r =
-      let t = taken-first 5 (omega arith) in
-      let e = r x Uplink ThreeGpp (message 5) one (t .uses) in
-      let q = t .count in
-      let z : nextAt x 0 ≡ 0 = refl in
-      omega arith
-
-  invented : Invents G → ⊥
-  invented r =
-      let t = taken-first 0 (omega arith) in
-      let e = r x Uplink ThreeGpp (message 0) one (t .uses) in
-      clash {b = fits (x .core) 0 1 0 2 (message 0)} (envelope-sealed (x .core) 0 one 1 0 1 .own)
-      (subst (λ (c : ℕ). fits (x .core) c 1 0 2 (message 0) ≡ false) (t .count) e)
-
   -- the COUNT 0 taken twice
   abbrev again : List Call
   again = opening 0 ∷ opening 0 ∷ []
@@ -120,11 +192,30 @@ module _ (G : Call → Context → Outcome) (keeps : Keeps G) where
       let l : countsUsed G 0 x p6 ≡ 5 ∷ [] = rw (used-at (setWindow 8 ∷ []) 5 t) in
       let unused : In 3 (countsUsed G 0 x p6) → ⊥ = λ i. not-five (subst (In 3) l i) in
       let e = opens p6 3 (omega arith) .exactly .1 (inl (unused, (record { under = omega arith; near = omega arith }, inl (omega arith, omega arith)))) in
-      let q = r (contextAfter G x p6) Uplink ThreeGpp (message 3) one (e .uses) in
+      let q = r x fresh (message 3) one (e .uses) in
       omega (arith, e .count, m .0)
     where
       not-five : In 3 (5 ∷ []) → ⊥
       not-five (inl h) = omega arith
+
+-- a candidate of the COUNT rule that is the next COUNT ends as the message does
+late-below : (size : ℕ) (r : Record) (s : ℕ) → lateOf 8 size r s ≡ At (r .next) → ⊥
+late-below size r s e =
+    let a = at-open size r (r .next - 1 - r .next) (late-found 8 size r s (r .next) e .0) in omega (arith, a .down)
+
+ahead-ends : (w : Bool) (r : Record) (s : ℕ) → forwardOf 8 w r s ≡ At (r .next) → s % 256 ≡ r .next % 256
+ahead-ends w r s e =
+    elim (forward-found 8 w r s (r .next) e .1) [
+      | inl t ↦ sym (t .ends)
+      | inr t ↦ omega (arith, distance-ends 8 (r .next) s)
+    ]
+
+as-next : (G : Call → Context → Outcome) → OpensAsNext G → ((x : Context) → Estimates G x) → ⊥
+as-next G r e =
+    let p = recordAt (r .x) (placeOf (r .d) (r .k)) in
+    ⊎-elim (late-below (r .x .core .size) p (getD (r .m) 6 0))
+    (λ h. r .other (ahead-ends (wraps (r .x .core)) p (getD (r .m) 6 0) h))
+    (e (r .x) .opens (r .d) (r .k) (r .m) (r .out) (nextAt (r .x) (placeOf (r .d) (r .k))) (r .uses) .0)
 
 -- the calls themselves are as in P6
 window-set : (x : Context) → Fresh x → gives (setWindow 8) x ≡ passes (setWindow 8) x
@@ -193,11 +284,11 @@ tightness =
     record {
       p6-late = λ x f. (moved x f (envelope (x .core) 1 5 1 0 one) one (five-taken x f .uses) (five-taken x f .count) .0, p6-still x f);
       refuses-all = λ G r k. refused G k r;
-      opens-as-next = λ G r k. as-next G k r;
+      opens-as-next = as-next;
       leaves-still = λ G r k. still G k r;
       p6 = record { sized = sized; moved = moved };
       never-late = λ G s r k. late G k s r;
-      invents = λ G r k. invented G k r;
+      invents = λ G r e. clash (e (r .x) .opens (r .d) (r .k) (r .m) (r .out) (r .c) (r .uses) .1) (r .unfit);
       copies = λ c.
           let e : _≡_ {A = List ℕ} (0x66 ∷ []) (0 ∷ []) = sym changes ∙ c zeros 0 0 0 (0 ∷ []) in
           let z : _≡_ {A = ℕ} 0x66 0 = cc in omega arith;

@@ -1,5 +1,5 @@
 -- Every public call with its arguments, and what it answers, hands back and leaves in the lent output: the definitions that the calls' contracts cite.
--- (`next_count`, `window`, `integrity` and `ciphering` answer a number of the context and hand back none; nothing here is about them.)
+-- Crate covers calls each function and proves that it leaves what stands here, from the function's contract alone.
 use Prim.Native.Nat.{ℕ}
 use mathlib.Core.Bool.{cond}
 use mathlib.Core.List.{List, [], _∷_, _++_}
@@ -7,7 +7,7 @@ use lib.Dec.{eqb}
 use Rattle.nas_5gs.specs.declared.Context.{Context}
 use Rattle.nas_5gs.specs.declared.Direction.{Direction}
 use Rattle.nas_5gs.specs.declared.Connection.{Connection}
-use Rattle.nas_5gs.specs.Places.{placeOf}
+use Rattle.nas_5gs.specs.Places.{placeOf, nextAt}
 use Rattle.nas_5gs.specs.Leaves.{Leaves, leaves, Values, changeValues, useValues, openValues, epsOpenValues, octetValues}
 use Rattle.nas_5gs.specs.Changes.{newOf, restoreOf, reselectOf, windowOf}
 use Rattle.nas_5gs.specs.Seal.{sealOf, sealOpaqueOf}
@@ -43,6 +43,11 @@ pub data Any : Type 0 where
   call : Call → Any
   reselect : ℕ → ℕ → List ℕ → List ℕ → Any
 
+-- The calls that read a number of a context, and hand back none.
+pub data Reading : Type 0 where
+  nextCount : Direction → Connection → Reading
+  window integrity ciphering : Reading
+
 -- document 01's values of the answer, the context, and the lent output: no octets where none is lent
 pub record Outcome : Type 0 where
   pub values : Values
@@ -71,6 +76,12 @@ givesAny (reselect i c ik ck) x = outcome changeValues (reselectOf x i c ik ck)
 abbrev pub makes : Making → Outcome
 makes (create i c ik ck) = outcome changeValues (newOf i c ik ck)
 makes (restore i c ik ck next) = outcome changeValues (restoreOf i c ik ck next)
+
+abbrev pub reads : Reading → Context → ℕ
+reads (nextCount d k) x = nextAt x (placeOf d k)
+reads window x = x .core .size
+reads integrity x = x .core .integrity
+reads ciphering x = x .core .ciphering
 
 -- the output that is lent
 abbrev pub lent : Call → List ℕ

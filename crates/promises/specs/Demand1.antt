@@ -1,12 +1,14 @@
 -- Demand 1: "Any bytes, any context, any buffer: every call ends with an answer. Bad input gets a numbered refusal. A refusal changes neither context nor
 -- buffer, but one: a message whose code is right and whose content is refused uses its COUNT and hands over its plaintext (refusal 8)."
 -- That every call ends is in the contracts, which ask nothing of the input: each is an equation with the definition that `givesAny` or `makes` cites.
-use Prim.Native.Nat.{ℕ}
+use Prim.Native.Nat.{ℕ, _-_, _≤_, _<_}
 use mathlib.Core.Path.{_≡_}
 use mathlib.Core.Bool.{true}
 use mathlib.Core.Logic.{_⊎_}
 use mathlib.Core.List.{List, [], _∷_}
-use lib.ListN.{length, drop}
+use lib.ListN.{length, getD, drop, replicate}
+use Rattle.algorithms.specs.Codes.{isBuilt}
+use Rattle.count.specs.Rule.{exhausted}
 use Rattle.count.specs.Run.{In}
 use Rattle.nas_core.specs.Keyed.{payload}
 use Rattle.look.specs.Look.{lookOf}
@@ -14,8 +16,8 @@ use Rattle.nas_5gs.specs.declared.Context.{Context}
 use Rattle.nas_5gs.specs.declared.Direction.{Direction}
 use Rattle.nas_5gs.specs.declared.Connection.{Connection}
 use Rattle.nas_5gs.specs.Places.{directionNo, bearerNo, placeOf, faultOf, used, usedLate}
-use Rattle.nas_5gs.specs.Leaves.{over, refusal}
-use Rattle.nas_5gs.specs.Changes.{refusedContext}
+use Rattle.nas_5gs.specs.Leaves.{over, refusal, success}
+use Rattle.nas_5gs.specs.Changes.{coreWith, contextWith, refusedContext, resized}
 use Rattle.nas_5gs.specs.Envelope.{ciphers}
 use Rattle.nas_5gs.specs.Open.{typeOf}
 use Rattle.nas_5gs.specs.Eps.{epsPlace}
@@ -50,6 +52,7 @@ pub record Demand1 (k : Any) (x : Context) : Type 0 where
   -- "A success writes the front of the output and no octet after it"
   pub behind : let o = givesAny k x in drop (o .values .wrote) (o .output) ≡ drop (o .values .wrote) (lentAny k)
   pub room : length (givesAny k x .output) ≡ length (lentAny k)
+  pub within : givesAny k x .values .wrote ≤ length (lentAny k)
   -- "A context that holds an unbuilt code, a size above 64 or a next COUNT above 16,777,216 gets 13, 14 or 16 before all else"
   pub fault : (faultOf x ≡ 0 → ⊥) → givesAny k x .values ≡ refusal (faultOf x)
 
@@ -94,15 +97,41 @@ pub record Demand1Open (x : Context) : Type 0 where
       → let o = gives (open5gs d k m out) x in
       Opened o
       → (o .values .header ≡ typeOf m) × (o .values .carried ≡ lookOf (typeOf m) (directionNo d) (plain5gs x d k m (o .values .count)))
+  pub wrote : (d : Direction) (k : Connection) (m out : List ℕ)
+      → let o = gives (open5gs d k m out) x in Opened o → o .values .wrote ≡ length m - 7
   pub carries : (d : Direction) (k : Connection) (m out : List ℕ)
       → let o = gives (open5gs d k m out) x in o .values .number ≡ 8 → In (o .values .carried) (9 ∷ 10 ∷ 11 ∷ [])
   pub opens-eps : (m out : List ℕ) → let o = gives (openEps m out) x in Opened o → HandsOver x epsPlace (λ c. drop 6 m) out o
   pub carries-eps : (m out : List ℕ) → let o = gives (openEps m out) x in o .values .number ≡ 8 → o .values .carried ≡ 12
 
+-- both codes are built
+abbrev pub Built : ℕ → ℕ → Type 0
+Built i c = (isBuilt i ≡ true) × (isBuilt c ≡ true)
+
+-- a call that lends no output: what it answers and hands back
+abbrev pub done : Context → Outcome
+done x = record { values = success; context = x; output = [] }
+
+abbrev pub refused : ℕ → Context → Outcome
+refused n x = record { values = refusal n; context = x; output = [] }
+
+-- "Creation ..: 13. Restore: 13, 16.": refused exactly then. "A fresh context has all next COUNTs 0 and size 0. Restore takes four next COUNTs and has size 0."
 -- "A refused creation or restore hands back a context with both codes 255 and all else 0, which every call refuses with 13."
 pub record Demand1Making : Type 0 where
-  pub created : (i c : ℕ) (ik ck : List ℕ) → let o = makes (create i c ik ck) in
-      (o .values ≡ refusal 0) ⊎ ((o .values ≡ refusal 13) × (o .context ≡ refusedContext))
-  pub restored : (i c : ℕ) (ik ck next : List ℕ) → let o = makes (restore i c ik ck next) in
-      (o .values ≡ refusal 0) ⊎ (((o .values ≡ refusal 13) ⊎ (o .values ≡ refusal 16)) × (o .context ≡ refusedContext))
+  pub created : (i c : ℕ) (ik ck : List ℕ) → Built i c → makes (create i c ik ck) ≡ done (contextWith i c ik ck (replicate 4 0))
+  pub not-created : (i c : ℕ) (ik ck : List ℕ) → (Built i c → ⊥) → makes (create i c ik ck) ≡ refused 13 refusedContext
+  pub restored : (i c : ℕ) (ik ck next : List ℕ) → Built i c → ((p : ℕ) → p < 4 → getD next p 0 ≤ exhausted)
+      → makes (restore i c ik ck next) ≡ done (contextWith i c ik ck next)
+  pub not-restored : (i c : ℕ) (ik ck next : List ℕ) → (Built i c → ⊥) → makes (restore i c ik ck next) ≡ refused 13 refusedContext
+  pub over-restored : (i c : ℕ) (ik ck next : List ℕ) (p : ℕ) → Built i c → p < 4 → exhausted < getD next p 0
+      → makes (restore i c ik ck next) ≡ refused 16 refusedContext
   pub refuses : (k : Any) → givesAny k refusedContext .values ≡ refusal 13
+
+-- ".. and reselection: 13. Window: 14.": of a context without fault, refused exactly then
+pub record Demand1Changes (x : Context) (faultless : faultOf x ≡ 0) : Type 0 where
+  -- "Reselection takes new codes and both new keys; next COUNTs, size and bits stay."
+  pub reselected : (i c : ℕ) (ik ck : List ℕ) → Built i c
+      → givesAny (reselect i c ik ck) x ≡ done (record { core = coreWith i c ik ck (x .core .size); records = x .records })
+  pub not-reselected : (i c : ℕ) (ik ck : List ℕ) → (Built i c → ⊥) → givesAny (reselect i c ik ck) x ≡ refused 13 x
+  pub sized : (n : ℕ) → n ≤ 64 → gives (setWindow n) x ≡ done (resized x n)
+  pub not-sized : (n : ℕ) → 64 < n → gives (setWindow n) x ≡ refused 14 x

@@ -1,7 +1,9 @@
 -- All that is promised, in one: of every call, every context, every output.
+use mathlib.Core.Path.{_≡_}
 use Rattle.nas_5gs.specs.declared.Context.{Context}
+use Rattle.nas_5gs.specs.Places.{faultOf}
 use Rattle.promises.specs.Calls.{Call, Any, gives}
-use Rattle.promises.specs.Demand1.{Demand1, Demand1Uses, Demand1Open, Demand1Making}
+use Rattle.promises.specs.Demand1.{Demand1, Demand1Uses, Demand1Open, Demand1Making, Demand1Changes}
 use Rattle.promises.specs.Demand2.{Demand2}
 use Rattle.promises.specs.Demand3.{Keeps}
 use Rattle.promises.specs.Delivery.{Delivery}
@@ -14,6 +16,7 @@ pub record Promises : Type 1 where
   pub demand1-uses : (k : Call) (x : Context) → Demand1Uses k x
   pub demand1-open : (x : Context) → Demand1Open x
   pub demand1-making : Demand1Making
+  pub demand1-changes : (x : Context) (faultless : faultOf x ≡ 0) → Demand1Changes x faultless
   pub demand2 : Demand2
   pub demand3 : Keeps gives
   pub delivery : Delivery

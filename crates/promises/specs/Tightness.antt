@@ -1,9 +1,10 @@
 -- "How tight the statements are": no second answer fits; and for wrong contexts that document 01 names, that they do not keep the promises. A wrong context is
--- any G from calls and contexts to outcomes, with what is wrong about it; `Keeps` is demand 3.
-use Prim.Native.Nat.{ℕ, _≤_}
+-- any G from calls and contexts to outcomes, with what is wrong about it; `Keeps` is demand 3, `Estimates` demand 2's estimate.
+use Prim.Native.Nat.{ℕ, _%_, _≤_}
 use mathlib.Core.Path.{_≡_}
 use mathlib.Core.Bool.{true, false}
 use mathlib.Core.List.{List, [], _∷_}
+use lib.ListN.{getD}
 use Rattle.aes.specs.Nas.{nea2Of}
 use Rattle.nas_core.specs.Verify.{fits}
 use Rattle.nas_5gs.specs.declared.Context.{Context}
@@ -12,17 +13,56 @@ use Rattle.nas_5gs.specs.declared.Direction.the-variants.{Uplink}
 use Rattle.nas_5gs.specs.declared.Connection.{Connection}
 use Rattle.nas_5gs.specs.declared.Connection.the-variants.{ThreeGpp}
 use Rattle.nas_5gs.specs.Places.{directionNo, bearerNo, placeOf, nextAt}
-use Rattle.nas_5gs.specs.Leaves.{Leaves, leaves}
+use Rattle.nas_5gs.specs.declared.ChangeAnswer.{ChangeAnswer}
+use Rattle.nas_5gs.specs.declared.UseAnswer.{UseAnswer}
+use Rattle.nas_5gs.specs.declared.OpenAnswer.{OpenAnswer}
+use Rattle.nas_5gs.specs.declared.EpsOpenAnswer.{EpsOpenAnswer}
+use Rattle.nas_5gs.specs.declared.OctetAnswer.{OctetAnswer}
+use Rattle.nas_5gs.specs.Leaves.{Leaves, Values, changeValues, useValues, openValues, epsOpenValues, octetValues}
 use Rattle.nas_5gs.specs.Envelope.{envelope}
-use Rattle.promises.specs.Calls.{Call, setWindow, open5gs, Outcome, gives, contextAfter}
+use Rattle.promises.specs.Calls.{Call, setWindow, seal5gs, sealOpaque, open5gs, sealEps, openEps, makeN1ToS1, verifyN1ToS1, makeS1ToN1, verifyS1ToN1, Any, call, reselect, Making, Outcome, outcome, gives, givesAny, makes, contextAfter}
+use Rattle.promises.specs.Words.{Uses}
+use Rattle.promises.specs.Demand2.{Estimates}
 use Rattle.promises.specs.Demand3.{Fresh, StillOpen, Keeps}
 
--- "what a public function says, refusals too, determines the answer, the context and each lent buffer; show that no second answer fits": every contract is
--- an equation of the answer, the context and the output as the call leaves it with one definition l of its arguments
-abbrev pub OnlyOne : Type 1
-OnlyOne =
-    (A : Type 0) (l : Leaves A) (a a′ : A) (x x′ : Context) (out out′ : List ℕ)
-    → leaves a x out ≡ l → leaves a′ x′ out′ ≡ l → (a ≡ a′) × (x ≡ x′) × (out ≡ out′)
+-- "what a public function says, refusals too, determines the answer, the context and each lent buffer; show that no second answer fits".
+-- The answer of each call, as its function gives it, with document 01's values of it:
+abbrev pub AnswerOf : Any → Type 0
+AnswerOf (call (setWindow n)) = ChangeAnswer
+AnswerOf (call (seal5gs t d k inner out)) = UseAnswer
+AnswerOf (call (sealOpaque t d k inner out)) = UseAnswer
+AnswerOf (call (open5gs d k m out)) = OpenAnswer
+AnswerOf (call (sealEps inner out)) = UseAnswer
+AnswerOf (call (openEps m out)) = EpsOpenAnswer
+AnswerOf (call makeN1ToS1) = OctetAnswer
+AnswerOf (call (verifyN1ToS1 s)) = UseAnswer
+AnswerOf (call (makeS1ToN1 ncc ngksi out)) = UseAnswer
+AnswerOf (call (verifyS1ToN1 v)) = UseAnswer
+AnswerOf (reselect i c ik ck) = ChangeAnswer
+
+abbrev pub valuesOf : (k : Any) → AnswerOf k → Values
+valuesOf (call (setWindow n)) = changeValues
+valuesOf (call (seal5gs t d k inner out)) = useValues
+valuesOf (call (sealOpaque t d k inner out)) = useValues
+valuesOf (call (open5gs d k m out)) = openValues
+valuesOf (call (sealEps inner out)) = useValues
+valuesOf (call (openEps m out)) = epsOpenValues
+valuesOf (call makeN1ToS1) = octetValues
+valuesOf (call (verifyN1ToS1 s)) = useValues
+valuesOf (call (makeS1ToN1 ncc ngksi out)) = useValues
+valuesOf (call (verifyS1ToN1 v)) = useValues
+valuesOf (reselect i c ik ck) = changeValues
+
+-- An implementation leaves an answer, a context and an output that meet the contract of the call (in crate covers, where each function is called).
+abbrev pub Meets : (k : Any) → Context → Leaves (AnswerOf k) → Type 0
+Meets k x l = outcome (valuesOf k) l ≡ givesAny k x
+
+abbrev pub MeetsMaking : Making → Leaves ChangeAnswer → Type 0
+MeetsMaking m l = outcome changeValues l ≡ makes m
+
+pub record OnlyOne : Type 0 where
+  pub calls : (k : Any) (x : Context) (l l′ : Leaves (AnswerOf k)) → Meets k x l → Meets k x l′ → l ≡ l′
+  pub makings : (m : Making) (l l′ : Leaves ChangeAnswer) → MeetsMaking m l → MeetsMaking m l′ → l ≡ l′
 
 -- what a 5GS open call of G answers
 abbrev Opens5gs : (Outcome → Context → Direction → Connection → List ℕ → Type 0) → (Call → Context → Outcome) → Type 0
@@ -32,23 +72,32 @@ Opens5gs P G = (x : Context) (d : Direction) (k : Connection) (m out : List ℕ)
 abbrev pub RefusesAll : (Call → Context → Outcome) → Type 0
 RefusesAll = Opens5gs (λ o x d k m. o .values .uses ≡ false)
 
--- "one that opens all as next (fails demand 2's estimate)"
-abbrev pub OpensAsNext : (Call → Context → Outcome) → Type 0
-OpensAsNext = Opens5gs (λ o x d k m. o .values .uses ≡ true → o .values .count ≡ nextAt x (placeOf d k))
+-- "one that opens all as next (fails demand 2's estimate)": once, for a message with another last octet, is enough
+pub record OpensAsNext (G : Call → Context → Outcome) : Type 0 where
+  pub x : Context
+  pub d : Direction
+  pub k : Connection
+  pub m : List ℕ
+  pub out : List ℕ
+  pub uses : Uses (G (open5gs d k m out) x) (nextAt x (placeOf d k))
+  pub other : getD m 6 0 % 256 ≡ nextAt x (placeOf d k) % 256 → ⊥
 
 -- "one that leaves the record still (COUNTs repeat)"
 abbrev pub LeavesStill : (Call → Context → Outcome) → Type 0
 LeavesStill = Opens5gs (λ o x d k m. o .context ≡ x)
 
--- "one that reports an invented COUNT (the code must fit it)"
-abbrev pub Invents : (Call → Context → Outcome) → Type 0
-Invents = Opens5gs (λ o x d k m. o .values .uses ≡ true → fits (x .core) (o .values .count) (bearerNo k) (directionNo d) 2 m ≡ false)
+-- "one that reports an invented COUNT (the code must fit it)": once is enough
+pub record Invents (G : Call → Context → Outcome) : Type 0 where
+  pub x : Context
+  pub d : Direction
+  pub k : Connection
+  pub m : List ℕ
+  pub out : List ℕ
+  pub c : ℕ
+  pub uses : Uses (G (open5gs d k m out) x) c
+  pub unfit : fits (x .core) c (bearerNo k) (directionNo d) 2 m ≡ false
 
--- "one that spends all late COUNTs on the first message (P6)": it opens none late, though next COUNT and size are those of P6: "size 8, fresh, COUNT 5
--- used: 0 to 4 open late, next 6"
-abbrev pub NeverLate : (Call → Context → Outcome) → Type 0
-NeverLate = Opens5gs (λ o x d k m. o .values .uses ≡ true → nextAt x (placeOf d k) ≤ o .values .count)
-
+-- "one that spends all late COUNTs on the first message (P6)": next COUNT and size are those of P6, "size 8, fresh, COUNT 5 used: 0 to 4 open late, next 6"
 pub record AsInP6 (G : Call → Context → Outcome) : Type 0 where
   pub sized : (x : Context) → Fresh x → let y = G (setWindow 8) x .context in (nextAt y 0 ≡ 0) × (y .core .size ≡ 8)
   pub moved : (x : Context) → Fresh x → (m out : List ℕ)
@@ -59,16 +108,23 @@ pub record AsInP6 (G : Call → Context → Outcome) : Type 0 where
 abbrev pub p6Calls : Context → List Call
 p6Calls x = open5gs Uplink ThreeGpp (envelope (x .core) 1 5 1 0 (0 ∷ [])) (0 ∷ []) ∷ setWindow 8 ∷ []
 
+-- and it opens none of them late, right after the two calls
+abbrev pub NeverLate : (Call → Context → Outcome) → Type 0
+NeverLate G = (x : Context) → Fresh x → (m out : List ℕ)
+    → let y = contextAfter G x (p6Calls x) in
+    let o = G (open5gs Uplink ThreeGpp m out) y in
+    o .values .uses ≡ true → nextAt y 0 ≤ o .values .count
+
 pub record Tightness : Type 0 where
   -- what is said of late COUNTs is said of something: P6 over the calls
   pub p6-late : (x : Context) → Fresh x
       → (nextAt (contextAfter gives x (p6Calls x)) 0 ≡ 6) × ((c : ℕ) → c ≤ 4 → StillOpen gives 0 x (p6Calls x) c)
   pub refuses-all : (G : Call → Context → Outcome) → RefusesAll G → Keeps G → ⊥
-  pub opens-as-next : (G : Call → Context → Outcome) → OpensAsNext G → Keeps G → ⊥
+  pub opens-as-next : (G : Call → Context → Outcome) → OpensAsNext G → ((x : Context) → Estimates G x) → ⊥
   pub leaves-still : (G : Call → Context → Outcome) → LeavesStill G → Keeps G → ⊥
   -- the calls themselves are as in P6
   pub p6 : AsInP6 gives
   pub never-late : (G : Call → Context → Outcome) → AsInP6 G → NeverLate G → Keeps G → ⊥
-  pub invents : (G : Call → Context → Outcome) → Invents G → Keeps G → ⊥
+  pub invents : (G : Call → Context → Outcome) → Invents G → ((x : Context) → Estimates G x) → ⊥
   -- "A cipher that copies its input passes the round trip alone, so the round trip is stated over NEA2's definition"
   pub copies : ((key : List ℕ) (c b d : ℕ) (m : List ℕ) → nea2Of key c b d m ≡ m) → ⊥

@@ -3,7 +3,10 @@ ghost use mathlib.Core.Path.{_≡_};
 ghost use Prim.Native.Nat.{_+_, _-_, _*_, _%_, _^_, _≤_, _<_, min};
 ghost use Rattle.count.specs.Rule.{exhausted, bit, distance, forwardOf, lateOf, formerHighest, useForward, useRound, useLate, resizeOf};
 
-// The next COUNT of one direction of one connection (16,777,216: exhausted), and the window bits: bit k is set when the COUNT k + 1 below the
+// 2^24, the first number that is no COUNT: a next COUNT of this means that all are used.
+pub const EXHAUSTED: u32 = 16777216;
+
+// The next COUNT of one direction of one connection (EXHAUSTED: all are used), and the window bits: bit k is set when the COUNT k + 1 below the
 // highest used one, next - 1, is used.
 pub struct Record {
     pub next: u32,
@@ -76,15 +79,15 @@ impl Record {
         ensures { λ r. ⌜ r ≡ forwardOf 8 wraps self s ⌝ }
     {
         let next = self.next;
-        if 16777216 <= next {
+        if EXHAUSTED <= next {
             return Candidate::Nothing;
         }
         let c = next + distance_up(next, s as u32);
-        if c < 16777216 {
+        if c < EXHAUSTED {
             return Candidate::At(c);
         }
         if wraps {
-            return Candidate::At(c % 16777216);
+            return Candidate::At(c % EXHAUSTED);
         }
         Candidate::Nothing
     }
@@ -135,7 +138,7 @@ impl Record {
         ensures { λ r. ⌜ r ≡ useRound self c ⌝ }
     {
         Record {
-            next: (c + 1) % 16777216,
+            next: (c + 1) % EXHAUSTED,
             bits: self.bits,
         }
     }

@@ -10,6 +10,26 @@ ghost use Rattle.envelope.specs.Eps.{notEps, epsMessage};
 ghost use Rattle.envelope.specs.Containers.{s1ToN1, s1Count, containerBearer, containerDirection, otherAlgorithms};
 use nas_core::Core;
 
+// In front of the payload: 7E, header type, code and last octet of COUNT (5GS), or 17, code and last octet (EPS).
+pub const HEADER: usize = 7;
+
+pub const EPS_HEADER: usize = 6;
+
+// Where the code begins.
+pub const CODE: usize = 2;
+
+pub const EPS_CODE: usize = 1;
+
+// The EPS message: 3GPP access, uplink.
+pub const EPS_BEARER: u8 = 1;
+
+pub const EPS_DIRECTION: u8 = 0;
+
+// The containers: 3GPP access, downlink.
+const CONTAINER_BEARER: u8 = 1;
+
+const CONTAINER_DIRECTION: u8 = 1;
+
 // The COUNT of the S1-to-N1 container's code (TS 33.501 6.9.2.3.3).
 const S1_COUNT: u32 = 4294967295;
 
@@ -48,7 +68,7 @@ pub fn put(
     let end = 7 + inner.len();
     let ciphered = is_ciphering(header_type);
     core.fill(ciphered, count, bearer, direction, inner, &mut out[7..end]);
-    core.protect(count, bearer, direction, &mut out[2..end]);
+    core.protect(count, bearer, direction, &mut out[CODE..end]);
     out[0] = 0x7e;
     out[1] = header_type;
 }
@@ -67,14 +87,14 @@ pub fn read(
     ensures plain { λ r. ⌜ now (out .exit) ≡ over (payload core (ciphers «header_type») count bearer direction (drop 7 (now (message .entry)))) (now (out .entry)) ⌝ }
     ensures looked { λ r. ⌜ r ≡ lookOf «header_type» direction (payload core (ciphers «header_type») count bearer direction (drop 7 (now (message .entry)))) ⌝ }
 {
-    let wrote = message.len() - 7;
+    let wrote = message.len() - HEADER;
     let ciphered = is_ciphering(header_type);
     core.fill(
         ciphered,
         count,
         bearer,
         direction,
-        &message[7..],
+        &message[HEADER..],
         &mut out[..wrote],
     );
     look::look(header_type, direction, &out[..wrote])
@@ -101,9 +121,9 @@ pub fn put_eps(core: Core, count: u32, inner: &[u8], out: &mut [u8])
     requires { ⌜ 6 + length (now inner) ≤ length (now out) ⌝ }
     ensures { λ r. ⌜ now (out .exit) ≡ over (epsMessage core count (now (inner .entry))) (now (out .entry)) ⌝ }
 {
-    let end = 6 + inner.len();
-    nas_core::copy(inner, &mut out[6..end]);
-    core.protect(count, 1, 0, &mut out[1..end]);
+    let end = EPS_HEADER + inner.len();
+    nas_core::copy(inner, &mut out[EPS_HEADER..end]);
+    core.protect(count, EPS_BEARER, EPS_DIRECTION, &mut out[EPS_CODE..end]);
     out[0] = 0x17;
 }
 
@@ -113,9 +133,9 @@ pub fn read_eps(message: &[u8], out: &mut [u8]) -> bool
     ensures plain { λ r. ⌜ now (out .exit) ≡ over (drop 6 (now (message .entry))) (now (out .entry)) ⌝ }
     ensures looked { λ r. ⌜ r ≡ notEps (drop 6 (now (message .entry))) ⌝ }
 {
-    let wrote = message.len() - 6;
-    nas_core::copy(&message[6..], &mut out[..wrote]);
-    not_eps(&message[6..])
+    let wrote = message.len() - EPS_HEADER;
+    nas_core::copy(&message[EPS_HEADER..], &mut out[..wrote]);
+    not_eps(&message[EPS_HEADER..])
 }
 
 // Refusal 15.
@@ -138,7 +158,7 @@ pub fn put_s1_to_n1(core: Core, ncc: u8, ngksi: u8, out: &mut [u8])
     out[5] = ncc * 16 + ngksi;
     out[6] = 0;
     out[7] = 0;
-    let code = core.code(S1_COUNT, 1, 1, &out[4..8]);
+    let code = core.code(S1_COUNT, CONTAINER_BEARER, CONTAINER_DIRECTION, &out[4..8]);
     nas_core::put_code(code, out);
 }
 
@@ -147,5 +167,5 @@ pub fn fits_s1_to_n1(core: Core, value: &[u8]) -> bool
     requires { ⌜ 8 ≤ length (now value) ⌝ }
     ensures { λ r. ⌜ r ≡ fits core s1Count containerBearer containerDirection 0 (now (value .entry)) ⌝ }
 {
-    core.fits(S1_COUNT, 1, 1, 0, value)
+    core.fits(S1_COUNT, CONTAINER_BEARER, CONTAINER_DIRECTION, 0, value)
 }

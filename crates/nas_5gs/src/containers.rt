@@ -22,8 +22,8 @@ impl Context {
                 context: self,
             };
         }
-        let count = self.records[1].next;
-        if nas_core::EXHAUSTED <= count {
+        let count = self.records[crate::CONTAINER_PLACE].next;
+        if count::EXHAUSTED <= count {
             return OctetDone {
                 answer: OctetAnswer::Refused(6),
                 context: self,
@@ -32,7 +32,7 @@ impl Context {
         let octet = (count % 256) as u8;
         OctetDone {
             answer: OctetAnswer::Made { count, octet },
-            context: self.used(1, count),
+            context: self.used(crate::CONTAINER_PLACE, count),
         }
     }
 
@@ -47,7 +47,7 @@ impl Context {
             };
         }
         let core = self.core;
-        let candidate = core.forward(self.records[1], octet);
+        let candidate = core.forward(self.records[crate::CONTAINER_PLACE], octet);
         match candidate {
             Candidate::Nothing => UseDone {
                 answer: UseAnswer::Refused(6),
@@ -55,7 +55,7 @@ impl Context {
             },
             Candidate::At(c) => UseDone {
                 answer: UseAnswer::Used { count: c, wrote: 0 },
-                context: self.used(1, c),
+                context: self.used(crate::CONTAINER_PLACE, c),
             },
         }
     }
@@ -76,7 +76,7 @@ impl Context {
         if room < 8 {
             return 5;
         }
-        if nas_core::EXHAUSTED <= self.records[1].next {
+        if count::EXHAUSTED <= self.records[crate::CONTAINER_PLACE].next {
             return 6;
         }
         0
@@ -92,11 +92,11 @@ impl Context {
                 context: self,
             };
         }
-        let count = self.records[1].next;
+        let count = self.records[crate::CONTAINER_PLACE].next;
         envelope::put_s1_to_n1(self.core, ncc, ngksi, out);
         UseDone {
             answer: UseAnswer::Used { count, wrote: 8 },
-            context: self.used(1, count),
+            context: self.used(crate::CONTAINER_PLACE, count),
         }
     }
 
@@ -117,8 +117,8 @@ impl Context {
         if envelope::other_algorithms(core, value) {
             return 15;
         }
-        let next = self.records[1].next;
-        if nas_core::EXHAUSTED <= next {
+        let next = self.records[crate::CONTAINER_PLACE].next;
+        if count::EXHAUSTED <= next {
             return 6;
         }
         if envelope::fits_s1_to_n1(core, value) {
@@ -138,10 +138,10 @@ impl Context {
                 context: self,
             };
         }
-        let count = self.records[1].next;
+        let count = self.records[crate::CONTAINER_PLACE].next;
         UseDone {
             answer: UseAnswer::Used { count, wrote: 0 },
-            context: self.used(1, count),
+            context: self.used(crate::CONTAINER_PLACE, count),
         }
     }
 }

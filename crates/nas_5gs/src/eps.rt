@@ -22,8 +22,8 @@ impl Context {
         if envelope::not_eps(inner) {
             return 12;
         }
-        let next = self.records[0].next;
-        nas_core::to_send(6, inner.len(), room, next)
+        let next = self.records[crate::EPS_PLACE].next;
+        nas_core::send_refusal(envelope::EPS_HEADER, inner.len(), room, next)
     }
 
     pub fn seal_eps(self, inner: &[u8], out: &mut [u8]) -> UseDone
@@ -36,12 +36,12 @@ impl Context {
                 context: self,
             };
         }
-        let count = self.records[0].next;
-        let wrote = 6 + inner.len();
+        let count = self.records[crate::EPS_PLACE].next;
+        let wrote = envelope::EPS_HEADER + inner.len();
         envelope::put_eps(self.core, count, inner, out);
         UseDone {
             answer: UseAnswer::Used { count, wrote },
-            context: self.used(0, count),
+            context: self.used(crate::EPS_PLACE, count),
         }
     }
 
@@ -58,15 +58,15 @@ impl Context {
         if message[0] != 0x17 {
             return 2;
         }
-        nas_core::to_hand(6, message.len(), room)
+        nas_core::hand_refusal(envelope::EPS_HEADER, message.len(), room)
     }
 
-    // The code is verified: what follows the header goes to the front of the output, and is looked at.
-    fn hand_eps(next: Context, count: u32, message: &[u8], out: &mut [u8]) -> EpsOpenDone
+    // The code is verified and its COUNT used: what follows the header goes to the front of the output, and is looked at.
+    fn hand_eps(self, count: u32, message: &[u8], out: &mut [u8]) -> EpsOpenDone
         requires { ⌜ (6 ≤ length (now message)) × (length (now message) - 6 ≤ length (now out)) ⌝ }
-        ensures { λ r. ⌜ leaves (r .answer) (r .context) (now (out .exit)) ≡ epsHanded (drop 6 (now (message .entry))) (now (out .entry)) count next ⌝ }
+        ensures { λ r. ⌜ leaves (r .answer) (r .context) (now (out .exit)) ≡ epsHanded (drop 6 (now (message .entry))) (now (out .entry)) count self ⌝ }
     {
-        let wrote = message.len() - 6;
+        let wrote = message.len() - envelope::EPS_HEADER;
         if envelope::read_eps(message, out) {
             let answer = EpsOpenAnswer::Content {
                 count,
@@ -75,12 +75,12 @@ impl Context {
             };
             return EpsOpenDone {
                 answer,
-                context: next,
+                context: self,
             };
         }
         EpsOpenDone {
             answer: EpsOpenAnswer::Accepted { count, wrote },
-            context: next,
+            context: self,
         }
     }
 
@@ -89,7 +89,13 @@ impl Context {
         ensures { λ r. ⌜ leaves (r .answer) (r .context) (now (out .exit)) ≡ epsOpened self (now (message .entry)) (now (out .entry)) ⌝ }
     {
         let core = self.core;
-        let choice = core.verify(self.records[0], 1, 0, 1, message);
+        let choice = core.verify(
+            self.records[crate::EPS_PLACE],
+            envelope::EPS_BEARER,
+            envelope::EPS_DIRECTION,
+            envelope::EPS_CODE,
+            message,
+        );
         match choice {
             Opening::None => EpsOpenDone {
                 answer: EpsOpenAnswer::Refused(6),
@@ -99,8 +105,9 @@ impl Context {
                 answer: EpsOpenAnswer::Refused(7),
                 context: self,
             },
-            Opening::Late(c) => Context::hand_eps(self.used_late(0, c), c, message, out),
-            Opening::Forward(c) => Context::hand_eps(self.used(0, c), c, message, out),
+            Opening::Late(c) => self.used_late(crate::EPS_PLACE, c)
+                .hand_eps(c, message, out),
+            Opening::Forward(c) => self.used(crate::EPS_PLACE, c).hand_eps(c, message, out),
         }
     }
 

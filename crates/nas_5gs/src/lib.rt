@@ -33,6 +33,11 @@ pub struct Context {
     pub records: [Record; 4],
 }
 
+// The records of EPS messages and of containers: uplink and downlink of 3GPP access.
+const EPS_PLACE: usize = 0;
+
+const CONTAINER_PLACE: usize = 1;
+
 // Creation, restore, reselection and window size.
 pub enum ChangeAnswer {
     Refused(u8),
@@ -142,16 +147,16 @@ fn place(direction: Direction, connection: Connection) -> usize
 fn any_over(a: u32, b: u32, c: u32, d: u32) -> bool
     ensures { λ r. ⌜ r ≡ anyOver (a ∷ b ∷ c ∷ d ∷ []) ⌝ }
 {
-    if nas_core::EXHAUSTED < a {
+    if count::EXHAUSTED < a {
         return true;
     }
-    if nas_core::EXHAUSTED < b {
+    if count::EXHAUSTED < b {
         return true;
     }
-    if nas_core::EXHAUSTED < c {
+    if count::EXHAUSTED < c {
         return true;
     }
-    nas_core::EXHAUSTED < d
+    count::EXHAUSTED < d
 }
 
 impl Context {

@@ -33,13 +33,12 @@ impl Context {
         if message.len() == 7 {
             return 1;
         }
-        nas_core::to_hand(7, message.len(), room)
+        nas_core::hand_refusal(envelope::HEADER, message.len(), room)
     }
 
-    // The code is verified: the plaintext goes to the front of the output, and is looked at.
+    // The code is verified and its COUNT used: the plaintext goes to the front of the output, and is looked at.
     fn hand(
         self,
-        next: Context,
         header_type: u8,
         count: u32,
         bearer: u8,
@@ -48,9 +47,9 @@ impl Context {
         out: &mut [u8],
     ) -> OpenDone
         requires { ⌜ (7 ≤ length (now message)) × (length (now message) - 7 ≤ length (now out)) ⌝ }
-        ensures { λ r. ⌜ leaves (r .answer) (r .context) (now (out .exit)) ≡ handed «header_type» direction (payload (self .core) (ciphers «header_type») count bearer direction (drop 7 (now (message .entry)))) (now (out .entry)) count next ⌝ }
+        ensures { λ r. ⌜ leaves (r .answer) (r .context) (now (out .exit)) ≡ handed «header_type» direction (payload (self .core) (ciphers «header_type») count bearer direction (drop 7 (now (message .entry)))) (now (out .entry)) count self ⌝ }
     {
-        let wrote = message.len() - 7;
+        let wrote = message.len() - envelope::HEADER;
         let number = envelope::read(
             self.core,
             header_type,
@@ -68,18 +67,19 @@ impl Context {
             };
             return OpenDone {
                 answer,
-                context: next,
+                context: self,
             };
         }
-        // Refusal 8 uses the COUNT all the same.
-        let context = next;
         let answer = OpenAnswer::Content {
             count,
             wrote,
             header_type,
             number,
         };
-        OpenDone { answer, context }
+        OpenDone {
+            answer,
+            context: self,
+        }
     }
 
     fn receive(
@@ -95,7 +95,7 @@ impl Context {
     {
         let core = self.core;
         let t = message[1] % 16;
-        let choice = core.verify(self.records[p], bearer, direction, 2, message);
+        let choice = core.verify(self.records[p], bearer, direction, envelope::CODE, message);
         match choice {
             Opening::None => OpenDone {
                 answer: OpenAnswer::Refused(6),
@@ -105,24 +105,9 @@ impl Context {
                 answer: OpenAnswer::Refused(7),
                 context: self,
             },
-            Opening::Late(c) => self.hand(
-                self.used_late(p, c),
-                t,
-                c,
-                bearer,
-                direction,
-                message,
-                out,
-            ),
-            Opening::Forward(c) => self.hand(
-                self.used(p, c),
-                t,
-                c,
-                bearer,
-                direction,
-                message,
-                out,
-            ),
+            Opening::Late(c) => self.used_late(p, c)
+                .hand(t, c, bearer, direction, message, out),
+            Opening::Forward(c) => self.used(p, c).hand(t, c, bearer, direction, message, out),
         }
     }
 

@@ -34,7 +34,7 @@ impl Context {
             return 11;
         }
         let next = self.records[p].next;
-        nas_core::to_send(7, inner.len(), room, next)
+        nas_core::send_refusal(envelope::HEADER, inner.len(), room, next)
     }
 
     fn opaque_refusal(self, header_type: u8, p: usize, inner: &[u8], room: usize) -> u8
@@ -49,7 +49,7 @@ impl Context {
             return 3;
         }
         let next = self.records[p].next;
-        nas_core::to_send(7, inner.len(), room, next)
+        nas_core::send_refusal(envelope::HEADER, inner.len(), room, next)
     }
 
     fn send(
@@ -65,7 +65,7 @@ impl Context {
         ensures { λ r. ⌜ leaves (r .answer) (r .context) (now (out .exit)) ≡ sent self «header_type» p bearer direction (now (inner .entry)) (now (out .entry)) ⌝ }
     {
         let count = self.records[p].next;
-        let wrote = 7 + inner.len();
+        let wrote = envelope::HEADER + inner.len();
         envelope::put(self.core, header_type, count, bearer, direction, inner, out);
         UseDone {
             answer: UseAnswer::Used { count, wrote },

@@ -16,9 +16,6 @@ use count::Record;
 // The most inner octets, and the longest container value.
 pub const LIMIT: usize = 8192;
 
-// A next COUNT of this is no COUNT: all are used.
-pub const EXHAUSTED: u32 = 16777216;
-
 #[repr(C)]
 pub struct Core {
     pub integrity: u8,
@@ -39,7 +36,7 @@ pub fn is_unbuilt(integrity: u8, ciphering: u8) -> bool
 }
 
 // Refusals 4, 5 and 6 of a call that sends, and 0 for none.
-pub fn to_send(header: usize, n: usize, room: usize, next: u32) -> u8
+pub fn send_refusal(header: usize, n: usize, room: usize, next: u32) -> u8
     requires { ⌜ header ≤ 8 ⌝ }
     ensures { λ r. ⌜ r ≡ first (sendRefusals header n room next) ⌝ }
 {
@@ -49,14 +46,14 @@ pub fn to_send(header: usize, n: usize, room: usize, next: u32) -> u8
     if room < header + n {
         return 5;
     }
-    if EXHAUSTED <= next {
+    if count::EXHAUSTED <= next {
         return 6;
     }
     0
 }
 
 // Refusals 4 and 5 of a call that hands over what is behind a header, and 0 for none.
-pub fn to_hand(header: usize, n: usize, room: usize) -> u8
+pub fn hand_refusal(header: usize, n: usize, room: usize) -> u8
     requires { ⌜ header ≤ n ⌝ }
     ensures { λ r. ⌜ r ≡ first (handRefusals header n room) ⌝ }
 {

@@ -19,7 +19,7 @@ returns-3 c = simp (sym (c .before .before .before .before .fault .ensures) ∙ 
 
 returns-4 : tie.Need-returns-4
 unfolding openEpsRefusal
-returns-4 c = simp (sym (c .before .before .before .before .before .fault .ensures) ∙ c .before .before .before .before .if1 .left, le-ltb _ _ (c .before .before .before .if2 .left), eq-eqb _ _ (c .before .if3 .left)) (c .to-hand .ensures)
+returns-4 c = simp (sym (c .before .before .before .before .before .fault .ensures) ∙ c .before .before .before .before .if1 .left, le-ltb _ _ (c .before .before .before .if2 .left), eq-eqb _ _ (c .before .if3 .left)) (c .hand-refusal .ensures)
 
 pub open-eps-refusal-spec : {M : Type 1} → statement M
 open-eps-refusal-spec =

@@ -27,7 +27,7 @@ returns-5 c = simp (sym (c .before .before .before .before .before .before .befo
 
 returns-6 : tie.Need-returns-6
 unfolding openRefusal
-returns-6 c = simp (sym (c .before .before .before .before .before .before .before .before .before .fault .ensures) ∙ c .before .before .before .before .before .before .before .before .if1 .left, le-ltb _ _ (c .before .before .before .before .before .before .before .if2 .left), eq-eqb _ _ (c .before .before .before .before .before .if3 .left), sym (c .before .before .before .is-wrong-type .ensures) ∙ c .before .before .if4 .left, ne-eqb _ _ (c .before .if5 .left)) (c .to-hand .ensures)
+returns-6 c = simp (sym (c .before .before .before .before .before .before .before .before .before .fault .ensures) ∙ c .before .before .before .before .before .before .before .before .if1 .left, le-ltb _ _ (c .before .before .before .before .before .before .before .if2 .left), eq-eqb _ _ (c .before .before .before .before .before .if3 .left), sym (c .before .before .before .is-wrong-type .ensures) ∙ c .before .before .if4 .left, ne-eqb _ _ (c .before .if5 .left)) (c .hand-refusal .ensures)
 
 pub open-refusal-spec : {M : Type 1} → statement M
 open-refusal-spec =

@@ -1,5 +1,6 @@
 use mathlib.Core.Path.{sym, _∙_}
 use Rattle.nas_core.proofs.Choices.{late-chosen, forward-chosen}
+use Rattle.nas_5gs.specs.Places.{used, usedLate}
 use Rattle.nas_5gs.specs.Open.{opened}
 use borrow.Author.Needs.{needs}
 use Rattle.nas_5gs.proofs.Context.receive.Statement.{statement}
@@ -20,12 +21,12 @@ unfolding opened
 returns-2 c = simp (sym (c .before .before .verify .ensures) ∙ c .enum-told2 .given .1)
 
 returns-3 : tie.Need-returns-3
-unfolding opened
-returns-3 c = simp (sym (c .before .before .before .before .before .before .before .before .verify .ensures) ∙ c .before .before .before .before .before .before .choice .given .1, sym (c .before .before .before .before .used-late .ensures)) (c .before .before .hand .ensures)
+unfolding opened usedLate
+returns-3 c = simp (sym (c .before .before .before .before .before .before .before .before .verify .ensures) ∙ c .before .before .before .before .before .before .choice .given .1) (rw (c .before .before .before .before .used-late .ensures) at (c .before .before .hand .ensures))
 
 returns-4 : tie.Need-returns-4
-unfolding opened
-returns-4 c = simp (sym (c .before .before .before .before .before .before .before .before .verify .ensures) ∙ c .before .before .before .before .before .before .choice2 .given .1, sym (c .before .before .before .before .used .ensures)) (c .before .before .hand2 .ensures)
+unfolding opened used
+returns-4 c = simp (sym (c .before .before .before .before .before .before .before .before .verify .ensures) ∙ c .before .before .before .before .before .before .choice2 .given .1) (rw (c .before .before .before .before .used .ensures) at (c .before .before .hand2 .ensures))
 
 pub receive-spec : {M : Type 1} → statement M
 receive-spec =

@@ -15,7 +15,7 @@ returns-2 c = simp (sym (c .before .before .before .fault .ensures) ∙ c .befor
 
 returns-3 : tie.Need-returns-3
 unfolding sealEpsRefusal
-returns-3 c = simp (sym (c .before .before .before .before .fault .ensures) ∙ c .before .before .before .if1 .left, sym (c .before .before .not-eps .ensures) ∙ c .before .if2 .left) (c .to-send .ensures)
+returns-3 c = simp (sym (c .before .before .before .before .fault .ensures) ∙ c .before .before .before .if1 .left, sym (c .before .before .not-eps .ensures) ∙ c .before .if2 .left) (c .send-refusal .ensures)
 
 pub seal-eps-refusal-spec : {M : Type 1} → statement M
 seal-eps-refusal-spec =

@@ -27,7 +27,7 @@ returns-5 c = simp (sym (c .before .before .before .before .before .before .befo
 
 returns-6 : tie.Need-returns-6
 unfolding sealRefusal
-returns-6 c = simp (sym (c .before .before .before .before .before .before .before .before .before .before .fault .ensures) ∙ c .before .before .before .before .before .before .before .before .before .if1 .left, sym (c .before .before .before .before .before .before .before .before .not-known .ensures) ∙ c .before .before .before .before .before .before .before .if2 .left, sym (c .before .before .before .before .before .before .is-wrong-type .ensures) ∙ c .before .before .before .before .before .if3 .left, sym (c .before .before .before .before .not-together .ensures) ∙ c .before .before .before .if4 .left, sym (c .before .before .wrong-way .ensures) ∙ c .before .if5 .left) (c .to-send .ensures)
+returns-6 c = simp (sym (c .before .before .before .before .before .before .before .before .before .before .fault .ensures) ∙ c .before .before .before .before .before .before .before .before .before .if1 .left, sym (c .before .before .before .before .before .before .before .before .not-known .ensures) ∙ c .before .before .before .before .before .before .before .if2 .left, sym (c .before .before .before .before .before .before .is-wrong-type .ensures) ∙ c .before .before .before .before .before .if3 .left, sym (c .before .before .before .before .not-together .ensures) ∙ c .before .before .before .if4 .left, sym (c .before .before .wrong-way .ensures) ∙ c .before .if5 .left) (c .send-refusal .ensures)
 
 pub seal-refusal-spec : {M : Type 1} → statement M
 seal-refusal-spec =

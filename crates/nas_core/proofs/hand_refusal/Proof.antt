@@ -1,7 +1,7 @@
 use borrow.Author.Tests.{lt-ltb, le-ltb}
 use borrow.Author.Needs.{needs}
-use Rattle.nas_core.proofs.to_hand.Statement.{statement}
-use Rattle.nas_core.proofs.to_hand.Tie as tie
+use Rattle.nas_core.proofs.hand_refusal.Statement.{statement}
+use Rattle.nas_core.proofs.hand_refusal.Tie as tie
 
 returns : tie.Need-returns
 returns c = simp (lt-ltb _ _ (c .if1 .taken))
@@ -12,8 +12,8 @@ returns-2 c = simp (le-ltb _ _ (c .before .if1 .left), lt-ltb _ _ (c .if2 .taken
 returns-3 : tie.Need-returns-3
 returns-3 c = simp (le-ltb _ _ (c .before .if1 .left), le-ltb _ _ (c .if2 .left))
 
-pub to-hand-spec : {M : Type 1} → statement M
-to-hand-spec =
+pub hand-refusal-spec : {M : Type 1} → statement M
+hand-refusal-spec =
     tie.close
     (tie.spec
     (λ c. search needs) returns returns-2 returns-3)

@@ -1,3 +1,4 @@
 pub mod Refusals
 pub mod Keyed
 pub mod Verify
+pub mod Leaves

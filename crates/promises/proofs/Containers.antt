@@ -34,11 +34,12 @@ use Rattle.nas_5gs.specs.Containers.{containerPlace, containerBearer, container
 use Rattle.promises.specs.Calls.{open5gs, openEps, makeN1ToS1, verifyN1ToS1, makeS1ToN1, verifyS1ToN1, Outcome, gives}
 use Rattle.promises.specs.Words.{SameKeys, Ahead, Succeeds, Uses}
 use Rattle.promises.specs.Demand2.{Containers, Twice, Estimates}
-use Rattle.promises.proofs.Shapes.{found, plain, openedAs, epsFound, epsAs, octetFound}
+use Rattle.promise.proofs.Answers.{names}
+use Rattle.promises.proofs.Shapes.{holding, found, plain, openedAs, epsFound, epsAs, octetFound}
 use Rattle.promises.proofs.Soundness.{Four, next-there}
 use Rattle.promises.proofs.Passing.{gives-passed, gives-refused, uses-passed}
 use Rattle.promises.proofs.Opening.{Parts, parts, fits-behind, codes-same}
-use Rattle.promises.proofs.Taking.{left, names, open-answering, eps-answering, open-left, eps-left}
+use Rattle.promises.proofs.Taking.{left, open-answering, eps-answering, open-left, eps-left}
 use Rattle.promises.proofs.Faults.{faultless, fault-stays}
 use Rattle.promises.proofs.Demand1.{opened-passed, s1-long}
 use Rattle.promises.proofs.Demand2.{writes-by}
@@ -71,14 +72,14 @@ module _ (x : Context) where
             let u′ : Uses (left openValues open′.Refused (openedAs x p b e m out) (plain x p b e m out) a x p out (found x p b e m out)) c =
             subst (λ (w : Outcome). Uses w c) q u in
             found-fits p b e 2 m c
-            (names openValues open′.Refused (openedAs x p b e m out) (plain x p b e m out) a x p out (found x p b e m out) c (u′ .0) (u′ .1));
+            (names holding openValues open′.Refused (openedAs x p b e m out) (plain x p b e m out) a x p out (found x p b e m out) c (u′ .0) (u′ .1));
         opens-eps = λ m out c u.
             let q = eps-left x m out (uses-passed (openEps m out) x (u .0)) in
             let a = eps-answering x m out in
             let u′ : Uses (left epsOpenValues eps.Refused (epsAs x m out) (λ c′. drop 6 m) a x epsPlace out (epsFound x m out)) c =
             subst (λ (w : Outcome). Uses w c) q u in
             found-fits epsPlace epsBearer epsDirection 1 m c
-            (names epsOpenValues eps.Refused (epsAs x m out) (λ c′. drop 6 m) a x epsPlace out (epsFound x m out) c (u′ .0) (u′ .1));
+            (names holding epsOpenValues eps.Refused (epsAs x m out) (λ c′. drop 6 m) a x epsPlace out (epsFound x m out) c (u′ .0) (u′ .1));
       }
 
 -- S1-to-N1

@@ -33,11 +33,12 @@ use Rattle.nas_5gs.specs.Containers.{containerPlace, s1ToN1}
 use Rattle.promises.specs.Calls.{Call, seal5gs, sealOpaque, open5gs, sealEps, openEps, makeN1ToS1, makeS1ToN1, Outcome, gives}
 use Rattle.promises.specs.Words.{SameKeys, TakenAs, Succeeds, Uses, written}
 use Rattle.promises.specs.Demand2.{Writes, RoundTrip}
-use Rattle.promises.proofs.Shapes.{refusalOf, found, plain, openedAs, epsFound, epsAs}
+use Rattle.promise.proofs.Answers.{names, takes-taken}
+use Rattle.promises.proofs.Shapes.{holding, refusalOf, found, plain, openedAs, epsFound, epsAs}
 use Rattle.promises.proofs.Passing.{passes, sends, gives-passed, uses-passed}
 use Rattle.promises.proofs.Numbers.{not-there}
 use Rattle.promises.proofs.Opening.{eps-sealed, envelope-same, eps-same}
-use Rattle.promises.proofs.Taking.{left, names, takes-taken, open-answering, eps-answering, open-left, eps-left, envelope-type, envelope-long, envelope-back}
+use Rattle.promises.proofs.Taking.{left, open-answering, eps-answering, open-left, eps-left, envelope-type, envelope-long, envelope-back}
 use Rattle.promises.proofs.Demand1.{opened-passed, s1-long, demand1-open}
 
 -- what a send writes
@@ -94,8 +95,8 @@ module _ (x : Context) (d : Direction) (k : Connection) (t c : ℕ) (inner room 
       let a = open-answering x p b e m room in
       let u′ : Uses (left openValues open′.Refused (openedAs x p b e m room) (plain x p b e m room) a x p room (found x p b e m room)) c =
       subst (λ (w : Outcome). Uses w c) q u in
-      rw q (takes-taken openValues open′.Refused (openedAs x p b e m room) (plain x p b e m room) a x p room c inner back (found x p b e m room) .0
-      (names openValues open′.Refused (openedAs x p b e m room) (plain x p b e m room) a x p room (found x p b e m room) c (u′ .0) (u′ .1)))
+      rw q (takes-taken holding openValues open′.Refused (openedAs x p b e m room) (plain x p b e m room) a x p room c inner back (found x p b e m room) .0
+      (names holding openValues open′.Refused (openedAs x p b e m room) (plain x p b e m room) a x p room (found x p b e m room) c (u′ .0) (u′ .1)))
 
   trip-header : Uses o c → o .values .header ≡ t
   trip-header u = demand1-open x .tells d k m room (open-trip u .number) .0 ∙ envelope-type (x .core) t c (bearerNo k) (directionNo d) inner from to
@@ -130,9 +131,9 @@ module _ (x : Context) (c : ℕ) (inner room : List ℕ) where
       let a = eps-answering x mEps room in
       let q = eps-left-now u in
       let u′ : Uses (epsLeft (epsFound x mEps room)) c = subst (λ (w : Outcome). Uses w c) q u in
-      rw q (takes-taken epsOpenValues eps.Refused (epsAs x mEps room) (λ c. drop 6 mEps) a x epsPlace room c inner (eps-sealed (x .core) c inner .body-there)
+      rw q (takes-taken holding epsOpenValues eps.Refused (epsAs x mEps room) (λ c. drop 6 mEps) a x epsPlace room c inner (eps-sealed (x .core) c inner .body-there)
       (epsFound x mEps room) .0
-      (names epsOpenValues eps.Refused (epsAs x mEps room) (λ c. drop 6 mEps) a x epsPlace room (epsFound x mEps room) c (u′ .0) (u′ .1)))
+      (names holding epsOpenValues eps.Refused (epsAs x mEps room) (λ c. drop 6 mEps) a x epsPlace room (epsFound x mEps room) c (u′ .0) (u′ .1)))
 
   eps-number : notEps (drop 6 mEps) ≡ false → (o : Opening) → epsLeft o .values .uses ≡ true → epsLeft o .values .number ≡ 0
   eps-number e None u = let z : _≡_ {A = ℕ} 0 1 = cc in absurd (omega arith)

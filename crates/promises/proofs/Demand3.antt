@@ -34,11 +34,13 @@ use Rattle.nas_5gs.specs.Eps.{epsPlace, epsBearer, epsDirection, epsMessage}
 use Rattle.promises.specs.Calls.{Call, open5gs, openEps, Outcome, gives, placeIn, contextAfter, countsUsed}
 use Rattle.promises.specs.Words.{SameKeys, recordOf, Ahead, TakenAs}
 use Rattle.promises.specs.Demand3.{Fresh, PassedOver, InsideSince, StillOpen, Opens, Demand3, Keeps}
-use Rattle.promises.proofs.Shapes.{does, acts, same-keys}
+use Rattle.promise.proofs.Acts.{same-keys}
+use Rattle.promise.proofs.Answers.{named, takes-taken}
+use Rattle.promises.proofs.Shapes.{holding, does, acts}
 use Rattle.promises.proofs.Soundness.{machine, Good, sound, does-valid, record-after, trans-keys}
 use Rattle.promises.proofs.Faults.{Faultless, stays-faultless}
 use Rattle.promises.proofs.Opening.{envelope-sealed, eps-sealed, envelope-same, eps-same}
-use Rattle.promises.proofs.Taking.{no-fault, named, takes-taken, open-answering, eps-answering, open-left, eps-left, open-passes, eps-passes, envelope-type, envelope-first, envelope-long, envelope-back, eps-first, verify-is}
+use Rattle.promises.proofs.Taking.{no-fault, open-answering, eps-answering, open-left, eps-left, open-passes, eps-passes, envelope-type, envelope-first, envelope-long, envelope-back, eps-first, verify-is}
 
 -- an act passes c over: by next alone
 passes-iff : (a : Act) (s : State) (c : ℕ) → Valid a s → Passes a s c ↔ ((s .at .next ≤ c) × (c + 1 < act a s .at .next))
@@ -235,8 +237,8 @@ module _ (x : Context) (good : Good x) (ok : Faultless x) (shut : (p : ℕ) → 
       let a = open-answering here p b e m out in
       let found-is = verify-is here p c b e 2 m _ (good-now x good ok ks .guarded) s in
       opens-by x good ok p (place-there d k) (shut p) ks (λ c′. fits (here .core) c′ b e 2 m) (gives (open5gs d k m out) here) c inner out count (s .own)
-      (rw (open-left here d k m out pass, ← found-is) (takes-taken _ _ _ _ a here p out c inner (envelope-back (here .core) t c b e inner from to) _))
-      (λ c′ h. rw (open-left here d k m out pass) (named _ _ _ _ a here p out _ c′ (subst (λ (o : Opening). Takes o c′) (sym found-is) h)))
+      (rw (open-left here d k m out pass, ← found-is) (takes-taken holding _ _ _ _ a here p out c inner (envelope-back (here .core) t c b e inner from to) _))
+      (λ c′ h. rw (open-left here d k m out pass) (named holding _ _ _ _ a here p out _ c′ (subst (λ (o : Opening). Takes o c′) (sym found-is) h)))
 
   opens-own-eps : (c : ℕ) (inner out : List ℕ) → c < exhausted → length inner ≤ limit → length inner ≤ length out
       → let m = epsMessage (here .core) c inner in
@@ -249,8 +251,8 @@ module _ (x : Context) (good : Good x) (ok : Faultless x) (shut : (p : ℕ) → 
       let found-is = verify-is here epsPlace c epsBearer epsDirection 1 m _ (good-now x good ok ks .guarded) s in
       opens-by x good ok epsPlace (omega arith) (shut epsPlace) ks (λ c′. fits (here .core) c′ epsBearer epsDirection 1 m) (gives (openEps m out) here) c inner out
       count (s .own)
-      (rw (eps-left here m out pass, ← found-is) (takes-taken _ _ _ _ a here epsPlace out c inner (s .body-there) _))
-      (λ c′ h. rw (eps-left here m out pass) (named _ _ _ _ a here epsPlace out _ c′ (subst (λ (o : Opening). Takes o c′) (sym found-is) h)))
+      (rw (eps-left here m out pass, ← found-is) (takes-taken holding _ _ _ _ a here epsPlace out c inner (s .body-there) _))
+      (λ c′ h. rw (eps-left here m out pass) (named holding _ _ _ _ a here epsPlace out _ c′ (subst (λ (o : Opening). Takes o c′) (sym found-is) h)))
 
   demand : Demand3 gives x ks
   demand =

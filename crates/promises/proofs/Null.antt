@@ -28,9 +28,10 @@ use Rattle.nas_5gs.specs.Containers.{containerPlace, containerBearer, container
 use Rattle.promises.specs.Calls.{Call, setWindow, seal5gs, sealOpaque, open5gs, sealEps, openEps, makeN1ToS1, verifyN1ToS1, makeS1ToN1, verifyS1ToN1, gives, placeIn}
 use Rattle.promises.specs.Words.{recordOf, Uses}
 use Rattle.promises.specs.Null.{NullHolds}
-use Rattle.promises.proofs.Shapes.{next, refusalOf, passing, does, acts, found, plain, openedAs, epsFound, epsAs}
+use Rattle.promise.proofs.Answers.{named}
+use Rattle.promises.proofs.Shapes.{holding, next, refusalOf, passing, does, acts, found, plain, openedAs, epsFound, epsAs}
 use Rattle.promises.proofs.Soundness.{Four, if-passed, own-after}
-use Rattle.promises.proofs.Taking.{named, open-answering, eps-answering, open-left, eps-left}
+use Rattle.promises.proofs.Taking.{open-answering, eps-answering, open-left, eps-left}
 use Rattle.promises.proofs.Containers.{verify-passes, verified}
 
 -- a use, if there is one, goes round
@@ -126,13 +127,13 @@ null-holds x w =
       passes = λ d k m out e h.
           let b = bearerNo k in let f = directionNo d in let p = placeOf d k in
           rw (open-left x d k m out e)
-          (named openValues open′.Refused (openedAs x p b f m out) (plain x p b f m out) (open-answering x p b f m out) x p out (found x p b f m out)
+          (named holding openValues open′.Refused (openedAs x p b f m out) (plain x p b f m out) (open-answering x p b f m out) x p out (found x p b f m out)
           (candidate x w p b f 2 m) (inr (found-round x w p b f 2 m h)));
       stays-exhausted = λ d k m out e h.
           rw (open-left x d k m out e, found-none x w (placeOf d k) (bearerNo k) (directionNo d) 2 m h);
       passes-eps = λ m out e h.
           rw (eps-left x m out e)
-          (named epsOpenValues eps.Refused (epsAs x m out) (λ c. drop 6 m) (eps-answering x m out) x epsPlace out (epsFound x m out)
+          (named holding epsOpenValues eps.Refused (epsAs x m out) (λ c. drop 6 m) (eps-answering x m out) x epsPlace out (epsFound x m out)
           (candidate x w epsPlace epsBearer epsDirection 1 m) (inr (found-round x w epsPlace epsBearer epsDirection 1 m h)));
       stays-exhausted-eps = λ m out e h.
           rw (eps-left x m out e, found-none x w epsPlace epsBearer epsDirection 1 m h);

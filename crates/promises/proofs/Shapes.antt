@@ -1,6 +1,6 @@
--- What calls share: each does one act on one record, and answers the COUNT that it used.
+-- The calls on a 5GS context: each does one act on one record, and answers the COUNT that it used.
 use Prim.Native.Nat.{ℕ, _%_}
-use mathlib.Core.Path.{_≡_, refl, ap}
+use mathlib.Core.Path.{_≡_, refl}
 use mathlib.Core.Bool.{Bool, true, false, cond}
 use mathlib.Core.List.{List, [], _∷_, map}
 use native.Mathlib.Omega.{arith}
@@ -8,12 +8,9 @@ use lib.ListN.{length, getD, set, drop}
 use lib.Dec.{eqb, ltb}
 use Rattle.count.specs.declared.Record.{Record}
 use Rattle.count.specs.declared.Opening.{Opening}
-use Rattle.count.specs.declared.Opening.the-variants.{Late, Forward, None, Wrong}
-use Rattle.count.specs.Rule.{resizeOf, forwardOnly}
-use Rattle.count.specs.Run.{Act, stay, resize, forward, round, useBy, act, actOf, used}
-use Rattle.count.specs.Machine.{recordsAfter}
+use Rattle.count.specs.Rule.{resizeOf, useLate, forwardOnly}
+use Rattle.count.specs.Run.{Act, stay, resize, actOf}
 use Rattle.refusals.specs.Order.{_when_, first, refusedOr}
-use Rattle.nas_core.specs.declared.Core.{Core}
 use Rattle.nas_core.specs.Keyed.{wraps, payload}
 use Rattle.nas_core.specs.Verify.{verifyOf, advanced}
 use Rattle.look.specs.Look.{lookOf}
@@ -27,7 +24,7 @@ use Rattle.nas_5gs.specs.declared.EpsOpenAnswer.{EpsOpenAnswer}
 use Rattle.nas_5gs.specs.declared.EpsOpenAnswer.the-variants as eps
 use Rattle.nas_5gs.specs.declared.OctetAnswer.the-variants as octet
 use Rattle.nas_5gs.specs.Places.{directionNo, bearerNo, placeOf, four, recordAt, nextAt, faultOf, used as usedAhead, usedLate}
-use Rattle.nas_5gs.specs.Leaves.{Leaves, leaves, over, useNext, received, Values, refusal, changeValues, useValues, openValues, epsOpenValues, octetValues}
+use Rattle.nas_5gs.specs.Leaves.{Leaves, leaves, over, useNext, received, refusal, changeValues, useValues, openValues, epsOpenValues, octetValues}
 use Rattle.nas_5gs.specs.Changes.{windowOf, resized}
 use Rattle.nas_5gs.specs.Envelope.{ciphers, envelope}
 use Rattle.nas_5gs.specs.Seal.{sealRefusal, opaqueRefusal, sent, sealOf, sealOpaqueOf}
@@ -35,17 +32,46 @@ use Rattle.nas_5gs.specs.Open.{typeOf, openRefusal, openAnswer, handed, opened,
 use Rattle.nas_5gs.specs.Eps.{epsPlace, epsBearer, epsDirection, notEps, epsMessage, sealEpsRefusal, sealEpsOf, openEpsRefusal, epsAnswer, epsHanded, epsOpened, openEpsOf}
 use Rattle.nas_5gs.specs.Containers.{containerPlace, noneLeft, lastOctet, s1ToN1, n1ToS1Of, verifyN1ToS1Of, s1ToN1Refusal, s1ToN1Of, verifyS1ToN1Refusal, verifyS1ToN1Of}
 use Rattle.promises.specs.Calls.{Call, setWindow, seal5gs, sealOpaque, open5gs, sealEps, openEps, makeN1ToS1, verifyN1ToS1, makeS1ToN1, verifyS1ToN1, Outcome, outcome, gives, placeIn, usedBy}
-use Rattle.promises.specs.Words.{SameKeys, recordOf}
+use Rattle.promise.proofs.Acts.{unless, Holding, next as nextIn, Acts as ActsOn, refused, ahead, below, first-refused, by-opening, sends as sendsBy}
 
--- an act, if there is no refusal
-abbrev pub unless : ℕ → Act → Act
-unless n a = cond (eqb n 0) a stay
+-- a 5GS context by its core and records
+pub used-records : (x : Context) (p c : ℕ) → usedAhead x p c .records ≡ set (x .records) p (advanced (x .core) (recordAt x p) c)
+unfolding usedAhead
+used-records x p c = refl
+
+pub late-records : (x : Context) (p c : ℕ) → usedLate x p c .records ≡ set (x .records) p (useLate (recordAt x p) c)
+unfolding usedLate
+late-records x p c = refl
+
+pub used-core : (x : Context) (p c : ℕ) → usedAhead x p c .core ≡ x .core
+unfolding usedAhead
+used-core x p c = refl
+
+pub late-core : (x : Context) (p c : ℕ) → usedLate x p c .core ≡ x .core
+unfolding usedLate
+late-core x p c = refl
+
+abbrev pub holding : Holding Context
+holding =
+    record {
+      core = λ x. x .core;
+      records = λ x. x .records;
+      ahead = usedAhead;
+      late = usedLate;
+      ahead-core = used-core;
+      late-core = late-core;
+      ahead-records = used-records;
+      late-records = late-records;
+    }
+
+abbrev pub Acts : Context → ℕ → Act → Outcome → Type 0
+Acts x p a o = ActsOn holding x p a o
 
 -- the next COUNT used
 abbrev pub next : Context → ℕ → Act
-next x p = actOf (wraps (x .core)) (Forward (nextAt x p))
+next x p = nextIn holding x p
 
--- the refusals that come before it
+-- the refusals that come before an act
 abbrev pub refusalOf : Call → Context → ℕ
 refusalOf (setWindow n) x = first (faultOf x ∷ 14 when (ltb 64 n) ∷ [])
 refusalOf (seal5gs t d k inner out) x = sealRefusal x t (placeOf d k) (directionNo d) inner (length out)
@@ -75,24 +101,6 @@ passing (verifyS1ToN1 v) x = next x containerPlace
 abbrev pub does : Call → Context → Act
 does k x = unless (refusalOf k x) (passing k x)
 
--- What an act on the record at p makes of a context, and of an answer.
-pub record Acts (x : Context) (p : ℕ) (a : Act) (o : Outcome) : Type 0 where
-  pub keys-after : SameKeys (x .core) (o .context .core)
-  pub size-after : o .context .core .size ≡ act a (recordOf p x) .size
-  pub records-after : o .context .records ≡ recordsAfter p a (x .core .size) (x .records)
-  pub counts : usedBy (o .values) ≡ used a
-
-pub same-keys : (x : Core) → SameKeys x x
-same-keys x = record { integrity = refl; ciphering = refl; integrity-key = refl; ciphering-key = refl }
-
-pub advanced-by : (x : Core) (r : Record) (c : ℕ) → advanced x r c ≡ useBy (cond (wraps x) round forward) (x .size) r c
-unfolding advanced
-advanced-by x r c = go (wraps x)
-  where
-    go : (w : Bool) → cond w (useBy round (x .size) r c) (useBy forward (x .size) r c) ≡ useBy (cond w round forward) (x .size) r c
-    go true = refl
-    go false = refl
-
 resize-four : (f : Record → Record) (none : Record) (l : List Record) → length l ≡ 4 → four (λ p. f (getD l p none)) ≡ map f l
 resize-four f none [] h = absurd (omega arith)
 resize-four f none (a ∷ []) h = absurd (omega arith)
@@ -100,47 +108,6 @@ resize-four f none (a ∷ b ∷ []) h = absurd (omega arith)
 resize-four f none (a ∷ b ∷ c ∷ []) h = absurd (omega arith)
 resize-four f none (a ∷ b ∷ c ∷ d ∷ []) h = refl
 resize-four f none (a ∷ b ∷ c ∷ d ∷ e ∷ l) h = absurd (omega arith)
-
-module _ (x : Context) (p : ℕ) where
-  -- the shapes: nothing, a COUNT used forward, a COUNT used late
-  refused : (v : Values) (out : List ℕ) → usedBy v ≡ [] → Acts x p stay (record { values = v; context = x; output = out })
-  refused v out e = record { keys-after = same-keys (x .core); size-after = refl; records-after = refl; counts = e }
-
-  ahead : (v : Values) (c : ℕ) (out : List ℕ) → usedBy v ≡ c ∷ []
-      → Acts x p (actOf (wraps (x .core)) (Forward c)) (record { values = v; context = usedAhead x p c; output = out })
-  unfolding usedAhead
-  ahead v c out e =
-      record {
-        keys-after = same-keys (x .core);
-        size-after = refl;
-        records-after = ap (set (x .records) p) (advanced-by (x .core) (recordAt x p) c);
-        counts = e;
-      }
-
-  below : (v : Values) (c : ℕ) (out : List ℕ) → usedBy v ≡ c ∷ []
-      → Acts x p (actOf (wraps (x .core)) (Late c)) (record { values = v; context = usedLate x p c; output = out })
-  unfolding usedLate
-  below v c out e = record { keys-after = same-keys (x .core); size-after = refl; records-after = refl; counts = e }
-
-  -- a refusal comes first
-  first-refused : {A : Type 0} (v : A → Values) (n : ℕ) (r : ℕ → Leaves A) (l : Leaves A) (a : Act)
-      → ((k : ℕ) → Acts x p stay (outcome v (r k))) → Acts x p a (outcome v l) → Acts x p (unless n a) (outcome v (refusedOr n r l))
-  first-refused v n r l a f g = go (eqb n 0)
-    where
-      go : (t : Bool) → Acts x p (cond t a stay) (outcome v (cond t l (r n)))
-      go true = g
-      go false = f n
-
-  -- by what an opening finds
-  by-opening : {A : Type 0} (v : A → Values) (r : ℕ → Leaves A) (h : ℕ → Context → Leaves A) (o : Opening)
-      → ((k : ℕ) → Acts x p stay (outcome v (r k)))
-      → ((c : ℕ) → Acts x p (actOf (wraps (x .core)) (Forward c)) (outcome v (h c (usedAhead x p c))))
-      → ((c : ℕ) → Acts x p (actOf (wraps (x .core)) (Late c)) (outcome v (h c (usedLate x p c))))
-      → Acts x p (actOf (wraps (x .core)) o) (outcome v (received x p r h o))
-  by-opening v r h None f g k = f 6
-  by-opening v r h Wrong f g k = f 7
-  by-opening v r h (Late c) f g k = k c
-  by-opening v r h (Forward c) f g k = g c
 
 open-counts : (c w t n : ℕ) (b : Bool) → usedBy (openValues (cond b (open′.Accepted c w t) (open′.Content c w t n))) ≡ c ∷ []
 open-counts c w t n true = refl
@@ -150,21 +117,16 @@ eps-counts : (c w : ℕ) (b : Bool) → usedBy (epsOpenValues (cond b (eps.Conte
 eps-counts c w true = refl
 eps-counts c w false = refl
 
--- refused, or the next COUNT used and octets written
 sends : (x : Context) (p n : ℕ) (made : ℕ → List ℕ) (out : List ℕ)
     → Acts x p (unless n (next x p)) (outcome useValues (refusedOr n (λ k. leaves (use′.Refused k) x out) (useNext x p made out)))
 unfolding useNext
-sends x p n made out =
-    let c = nextAt x p in
-    first-refused x p useValues n (λ k. leaves (use′.Refused k) x out) (useNext x p made out) (next x p)
-    (λ k. refused x p (refusal k) out refl)
-    (ahead x p (useValues (use′.Used c (length (made c)))) c (over (made c) out) refl)
+sends x p n made out = sendsBy holding x p useValues use′.Refused use′.Used (λ k. refl) (λ c w. refl) n made out
 
 window-acts : (x : Context) (n : ℕ) → length (x .records) ≡ 4 → Acts x 4 (does (setWindow n) x) (gives (setWindow n) x)
 unfolding windowOf resized
 window-acts x n h =
-    first-refused x 4 changeValues (first (faultOf x ∷ 14 when (ltb 64 n) ∷ [])) (λ k. leaves (change.Refused k) x []) (leaves change.Done (resized x n) []) (resize n)
-    (λ k. refused x 4 (refusal k) [] refl)
+    first-refused holding x 4 changeValues (first (faultOf x ∷ 14 when (ltb 64 n) ∷ [])) (λ k. leaves (change.Refused k) x []) (leaves change.Done (resized x n) []) (resize n)
+    (λ k. refused holding x 4 (refusal k) [] refl)
     record {
       keys-after = record { integrity = refl; ciphering = refl; integrity-key = refl; ciphering-key = refl };
       size-after = refl;
@@ -190,7 +152,7 @@ module _ (x : Context) (p b d : ℕ) (m out : List ℕ) where
   notOpened k = leaves (open′.Refused k) x out
 
   open-refused : (k : ℕ) → Acts x p stay (outcome openValues (notOpened k))
-  open-refused k = refused x p (refusal k) out refl
+  open-refused k = refused holding x p (refusal k) out refl
 
   as-counted : (c : ℕ) → usedBy (openValues (openedAs c)) ≡ c ∷ []
   as-counted c = open-counts c (length (plain c)) (typeOf m) (look c) (eqb (look c) 0)
@@ -198,10 +160,10 @@ module _ (x : Context) (p b d : ℕ) (m out : List ℕ) where
   open-acts : (n : ℕ) → Acts x p (unless n (actOf (wraps (x .core)) found)) (outcome openValues (refusedOr n notOpened (opened x p b d m out)))
   unfolding opened handed
   open-acts n =
-      first-refused x p openValues n notOpened (opened x p b d m out) (actOf (wraps (x .core)) found) open-refused
-      (by-opening x p openValues notOpened (λ c y. handed (typeOf m) d (plain c) out c y) found open-refused
-      (λ c. ahead x p (openValues (openedAs c)) c (over (plain c) out) (as-counted c))
-      (λ c. below x p (openValues (openedAs c)) c (over (plain c) out) (as-counted c)))
+      first-refused holding x p openValues n notOpened (opened x p b d m out) (actOf (wraps (x .core)) found) open-refused
+      (by-opening holding x p openValues notOpened (λ c y. handed (typeOf m) d (plain c) out c y) found open-refused
+      (λ c. ahead holding x p (openValues (openedAs c)) c (over (plain c) out) (as-counted c))
+      (λ c. below holding x p (openValues (openedAs c)) c (over (plain c) out) (as-counted c)))
 
 -- EPS open
 module _ (x : Context) (m out : List ℕ) where
@@ -215,7 +177,7 @@ module _ (x : Context) (m out : List ℕ) where
   epsNotOpened k = leaves (eps.Refused k) x out
 
   eps-refused : (k : ℕ) → Acts x epsPlace stay (outcome epsOpenValues (epsNotOpened k))
-  eps-refused k = refused x epsPlace (refusal k) out refl
+  eps-refused k = refused holding x epsPlace (refusal k) out refl
 
   eps-counted : (c : ℕ) → usedBy (epsOpenValues (epsAs c)) ≡ c ∷ []
   eps-counted c = eps-counts c (length (drop 6 m)) (notEps (drop 6 m))
@@ -223,10 +185,10 @@ module _ (x : Context) (m out : List ℕ) where
   eps-acts : (n : ℕ) → Acts x epsPlace (unless n (actOf (wraps (x .core)) epsFound)) (outcome epsOpenValues (refusedOr n epsNotOpened (epsOpened x m out)))
   unfolding epsOpened epsHanded
   eps-acts n =
-      first-refused x epsPlace epsOpenValues n epsNotOpened (epsOpened x m out) (actOf (wraps (x .core)) epsFound) eps-refused
-      (by-opening x epsPlace epsOpenValues epsNotOpened (λ c y. epsHanded (drop 6 m) out c y) epsFound eps-refused
-      (λ c. ahead x epsPlace (epsOpenValues (epsAs c)) c (over (drop 6 m) out) (eps-counted c))
-      (λ c. below x epsPlace (epsOpenValues (epsAs c)) c (over (drop 6 m) out) (eps-counted c)))
+      first-refused holding x epsPlace epsOpenValues n epsNotOpened (epsOpened x m out) (actOf (wraps (x .core)) epsFound) eps-refused
+      (by-opening holding x epsPlace epsOpenValues epsNotOpened (λ c y. epsHanded (drop 6 m) out c y) epsFound eps-refused
+      (λ c. ahead holding x epsPlace (epsOpenValues (epsAs c)) c (over (drop 6 m) out) (eps-counted c))
+      (λ c. below holding x epsPlace (epsOpenValues (epsAs c)) c (over (drop 6 m) out) (eps-counted c)))
 
 -- verifying the N1-to-S1 container
 module _ (x : Context) (s : ℕ) where
@@ -240,25 +202,25 @@ module _ (x : Context) (s : ℕ) where
   octetUsed c y = leaves (use′.Used c 0) y []
 
   octet-refused : (k : ℕ) → Acts x containerPlace stay (outcome useValues (octetRefused k))
-  octet-refused k = refused x containerPlace (refusal k) [] refl
+  octet-refused k = refused holding x containerPlace (refusal k) [] refl
 
   octet-acts : Acts x containerPlace (does (verifyN1ToS1 s) x) (gives (verifyN1ToS1 s) x)
   unfolding verifyN1ToS1Of
   octet-acts =
-      first-refused x containerPlace useValues (faultOf x) octetRefused (received x containerPlace octetRefused octetUsed octetFound)
+      first-refused holding x containerPlace useValues (faultOf x) octetRefused (received x containerPlace octetRefused octetUsed octetFound)
       (actOf (wraps (x .core)) octetFound) octet-refused
-      (by-opening x containerPlace useValues octetRefused octetUsed octetFound octet-refused
-      (λ c. ahead x containerPlace (useValues (use′.Used c 0)) c [] refl)
-      (λ c. below x containerPlace (useValues (use′.Used c 0)) c [] refl))
+      (by-opening holding x containerPlace useValues octetRefused octetUsed octetFound octet-refused
+      (λ c. ahead holding x containerPlace (useValues (use′.Used c 0)) c [] refl)
+      (λ c. below holding x containerPlace (useValues (use′.Used c 0)) c [] refl))
 
 made-acts : (x : Context) → Acts x containerPlace (does makeN1ToS1 x) (gives makeN1ToS1 x)
 unfolding n1ToS1Of
 made-acts x =
     let c = nextAt x containerPlace in
-    first-refused x containerPlace octetValues (first (faultOf x ∷ 6 when noneLeft x ∷ [])) (λ k. leaves (octet.Refused k) x [])
+    first-refused holding x containerPlace octetValues (first (faultOf x ∷ 6 when noneLeft x ∷ [])) (λ k. leaves (octet.Refused k) x [])
     (lastOctet x c) (next x containerPlace)
-    (λ k. refused x containerPlace (refusal k) [] refl)
-    (ahead x containerPlace (octetValues (octet.Made c (c % 256))) c [] refl)
+    (λ k. refused holding x containerPlace (refusal k) [] refl)
+    (ahead holding x containerPlace (octetValues (octet.Made c (c % 256))) c [] refl)
 
 pub acts : (k : Call) (x : Context) → length (x .records) ≡ 4 → Acts x (placeIn k) (does k x) (gives k x)
 unfolding sealOf sealOpaqueOf sent openOf sealEpsOf openEpsOf s1ToN1Of verifyS1ToN1Of

@@ -26,7 +26,8 @@ use Rattle.nas_5gs.specs.Eps.{epsPlace, epsBearer, epsDirection, sealEpsRefusal
 use Rattle.nas_5gs.specs.Containers.{containerPlace, noneLeft, s1ToN1Refusals, s1ToN1Refusal, verifyS1ToN1Refusals, verifyS1ToN1Refusal}
 use Rattle.promises.specs.Calls.{Call, setWindow, seal5gs, sealOpaque, open5gs, sealEps, openEps, makeN1ToS1, verifyN1ToS1, makeS1ToN1, verifyS1ToN1, gives, placeIn}
 use Rattle.promises.specs.Words.{SameKeys, recordOf}
-use Rattle.promises.proofs.Shapes.{unless, next, refusalOf, passing, does, found, epsFound, octetFound, acts}
+use Rattle.promise.proofs.Acts.{unless}
+use Rattle.promises.proofs.Shapes.{next, refusalOf, passing, does, found, epsFound, octetFound, acts}
 
 abbrev pub machine : Machine Context Call
 machine =

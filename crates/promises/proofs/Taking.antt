@@ -1,17 +1,15 @@
 -- When an open call takes a message as a COUNT: by what its opening finds.
 use Prim.Native.Nat.{ℕ, _+_, _-_, _%_, _≤_, _<_}
-use mathlib.Core.Path.{_≡_, refl, sym, ap, _∙_}
+use mathlib.Core.Path.{_≡_, refl, ap, _∙_}
 use mathlib.Core.Bool.{Bool, true, false, cond}
-use mathlib.Core.Logic.{_⊎_, inl, inr, _↔_}
+use mathlib.Core.Logic.{_⊎_, inl, inr}
 use mathlib.Core.List.{List}
 use native.Mathlib.Omega.{arith}
 use lib.ListN.{length, getD, drop}
 use lib.Dec.{eqb}
 use borrow.Author.Tests.{eq-eqb, ne-eqb, le-ltb}
 use Rattle.count.specs.declared.Opening.{Opening}
-use Rattle.count.specs.declared.Opening.the-variants.{Late, Forward, None, Wrong}
 use Rattle.count.specs.Rule.{exhausted, opening}
-use Rattle.count.specs.Facts.{Takes}
 use Rattle.nas_core.specs.declared.Core.{Core}
 use Rattle.nas_core.specs.Keyed.{wraps, payload}
 use Rattle.nas_core.specs.Refusals.{limit, unbuilt, coreFault}
@@ -22,13 +20,14 @@ use Rattle.nas_5gs.specs.declared.Connection.{Connection}
 use Rattle.nas_5gs.specs.declared.OpenAnswer.the-variants as open′
 use Rattle.nas_5gs.specs.declared.EpsOpenAnswer.the-variants as eps
 use Rattle.nas_5gs.specs.Places.{directionNo, bearerNo, placeOf, recordAt, nextAt, faultOf}
-use Rattle.nas_5gs.specs.Leaves.{leaves, over, received, Values, openValues, epsOpenValues}
+use Rattle.nas_5gs.specs.Leaves.{Values, openValues, epsOpenValues}
 use Rattle.nas_5gs.specs.Envelope.{wrongType, ciphers, envelope}
 use Rattle.nas_5gs.specs.Open.{typeOf, openRefusal, handed, opened, openOf}
 use Rattle.nas_5gs.specs.Eps.{epsPlace, notEps, epsMessage, openEpsRefusal, epsHanded, epsOpened, openEpsOf}
-use Rattle.promises.specs.Calls.{open5gs, openEps, Outcome, outcome, gives}
-use Rattle.promises.specs.Words.{TakenAs}
-use Rattle.promises.proofs.Shapes.{found, plain, look, openedAs, epsFound, epsAs}
+use Rattle.promises.specs.Calls.{open5gs, openEps, Outcome, gives}
+use Rattle.promise.proofs.Answers.{left as leftBy}
+pub use Rattle.promise.proofs.Answers.{Answering}
+use Rattle.promises.proofs.Shapes.{holding, found, plain, look, openedAs, epsFound, epsAs}
 use Rattle.promises.proofs.Opening.{Sealed, envelope-sealed, payload-length, payload-twice}
 
 pub no-fault : (x : Context) → unbuilt (x .core .integrity) (x .core .ciphering) ≡ false → x .core .size ≤ 64 → ((p : ℕ) → p < 4 → nextAt x p ≤ exhausted)
@@ -44,40 +43,8 @@ no-fault x built small counts =
       le-ltb exhausted (nextAt x 3) (counts 3 (omega arith)),
     )
 
--- Answers to a received message: a refusal uses no COUNT; the others use theirs, and are a success or 8.
-module _ {A : Type 0} (v : A → Values) (no : ℕ → A) (yes : ℕ → A) (plain-of : ℕ → List ℕ) where
-  pub record Answering : Type 0 where
-    pub refuses : (n : ℕ) → v (no n) .uses ≡ false
-    pub uses : (c : ℕ) → v (yes c) .uses ≡ true
-    pub count : (c : ℕ) → v (yes c) .count ≡ c
-    pub number : (c : ℕ) → (v (yes c) .number ≡ 0) ⊎ (v (yes c) .number ≡ 8)
-    pub wrote : (c : ℕ) → v (yes c) .wrote ≡ length (plain-of c)
-
-  module _ (a : Answering) (x : Context) (p : ℕ) (out : List ℕ) where
-    abbrev pub left : Opening → Outcome
-    left o = outcome v (received x p (λ n. leaves (no n) x out) (λ c y. leaves (yes c) y (over (plain-of c) out)) o)
-
-    pub named : (o : Opening) (c : ℕ) → Takes o c → (left o .values .uses ≡ true) × (left o .values .count ≡ c)
-    named o c (inl e) = rw e (a .uses c, a .count c)
-    named o c (inr e) = rw e (a .uses c, a .count c)
-
-    never-uses : {B : Type 0} (n : ℕ) → v (no n) .uses ≡ true → B
-    never-uses n e = let z : _≡_ {A = ℕ} 0 1 = cc (a .refuses n) in absurd (omega arith)
-
-    pub names : (o : Opening) (c : ℕ) → left o .values .uses ≡ true → left o .values .count ≡ c → Takes o c
-    names None c u e = never-uses 6 u
-    names Wrong c u e = never-uses 7 u
-    names (Late c′) c u e = inl (ap Late (sym (a .count c′) ∙ e))
-    names (Forward c′) c u e = inr (ap Forward (sym (a .count c′) ∙ e))
-
-    took : (c : ℕ) (inner : List ℕ) → plain-of c ≡ inner → (o : Opening) → Takes o c → TakenAs (left o) c inner out
-    took c inner q o (inl e) =
-        rw e record { uses = a .uses c; count = a .count c; number = a .number c; wrote = a .wrote c ∙ ap length q; hands = ap (λ (l : List ℕ). over l out) q }
-    took c inner q o (inr e) =
-        rw e record { uses = a .uses c; count = a .count c; number = a .number c; wrote = a .wrote c ∙ ap length q; hands = ap (λ (l : List ℕ). over l out) q }
-
-    pub takes-taken : (c : ℕ) (inner : List ℕ) → plain-of c ≡ inner → (o : Opening) → Takes o c ↔ TakenAs (left o) c inner out
-    takes-taken c inner q o = (took c inner q o, λ t. names o c (t .uses) (t .count))
+abbrev pub left : {A : Type 0} (v : A → Values) (no′ yes′ : ℕ → A) (plain-of : ℕ → List ℕ) → Answering v no′ yes′ plain-of → Context → ℕ → List ℕ → Opening → Outcome
+left v no′ yes′ plain-of a x p out o = leftBy holding v no′ yes′ plain-of a x p out o
 
 -- the two kinds of open call
 module _ (x : Context) (p b d : ℕ) (m out : List ℕ) where

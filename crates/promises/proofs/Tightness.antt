@@ -43,7 +43,8 @@ use Rattle.promises.specs.Words.{recordOf, TakenAs}
 use Rattle.promises.specs.Demand2.{Estimates}
 use Rattle.promises.specs.Demand3.{Fresh, StillOpen, Opens, Keeps}
 use Rattle.promises.specs.Tightness.{AnswerOf, Meets, OnlyOne, RefusesAll, OpensAsNext, LeavesStill, Invents, NeverLate, AsInP6, p6Calls, Tightness}
-use Rattle.promises.proofs.Shapes.{does, acts, same-keys}
+use Rattle.promise.proofs.Acts.{same-keys}
+use Rattle.promises.proofs.Shapes.{does, acts}
 use Rattle.promises.proofs.Soundness.{does-valid, own-after}
 use Rattle.promises.proofs.Passing.{passes, gives-passed}
 use Rattle.promises.proofs.Taking.{no-fault}

@@ -8,12 +8,14 @@ use Rattle.nas_5gs.specs.declared.Context.{Context}
 use Rattle.nas_5gs.specs.declared.Direction.{Direction}
 use Rattle.nas_5gs.specs.declared.Connection.{Connection}
 use Rattle.nas_5gs.specs.Places.{placeOf, nextAt}
-use Rattle.nas_5gs.specs.Leaves.{Leaves, leaves, Values, changeValues, useValues, openValues, epsOpenValues, octetValues}
+use Rattle.nas_5gs.specs.Leaves.{changeValues, useValues, openValues, epsOpenValues, octetValues}
 use Rattle.nas_5gs.specs.Changes.{newOf, restoreOf, reselectOf, windowOf}
 use Rattle.nas_5gs.specs.Seal.{sealOf, sealOpaqueOf}
 use Rattle.nas_5gs.specs.Open.{openOf}
 use Rattle.nas_5gs.specs.Eps.{epsPlace, sealEpsOf, openEpsOf}
 use Rattle.nas_5gs.specs.Containers.{containerPlace, n1ToS1Of, verifyN1ToS1Of, s1ToN1Of, verifyS1ToN1Of}
+use Rattle.promise.specs.Outcomes.{Outcome as OutcomeOf}
+pub use Rattle.promise.specs.Outcomes.{outcome, usedBy}
 
 -- The calls on a context, "any calls but restore and reselection". The last argument of those that write is the lent output as it was.
 pub data Call : Type 0 where
@@ -48,14 +50,8 @@ pub data Reading : Type 0 where
   nextCount : Direction → Connection → Reading
   window integrity ciphering : Reading
 
--- document 01's values of the answer, the context, and the lent output: no octets where none is lent
-pub record Outcome : Type 0 where
-  pub values : Values
-  pub context : Context
-  pub output : List ℕ
-
-abbrev pub outcome : {A : Type 0} → (A → Values) → Leaves A → Outcome
-outcome valuesOf (leaves a x out) = record { values = valuesOf a; context = x; output = out }
+abbrev pub Outcome : Type 0
+Outcome = OutcomeOf Context
 
 abbrev pub gives : Call → Context → Outcome
 gives (setWindow n) x = outcome changeValues (windowOf x n)
@@ -112,10 +108,6 @@ placeIn makeN1ToS1 = containerPlace
 placeIn (verifyN1ToS1 s) = containerPlace
 placeIn (makeS1ToN1 ncc ngksi out) = containerPlace
 placeIn (verifyS1ToN1 v) = containerPlace
-
--- the COUNT that an answer says was used, if one was
-abbrev pub usedBy : Values → List ℕ
-usedBy v = cond (v .uses) (v .count ∷ []) []
 
 -- Any calls, whatever gives their outcomes: `gives`, or that of a wrong context.
 module _ (G : Call → Context → Outcome) where

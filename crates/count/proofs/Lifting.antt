@@ -102,7 +102,7 @@ module _ {X C : Type 0} (T : Machine X C) (Good : X → Type 0) (sound : Sound T
       view-gives T Good (sound .acting) k y (still-good ks) p (still-there ks)
       ∙ ap (act (seen p (T .place k y) (T .does k y))) (record-after ks)
 
-  fair : (ks : List C) → Fair (view T p x) (actsOn T p x ks)
+  pub fair : (ks : List C) → Fair (view T p x) (actsOn T p x ks)
   fair [] = tt
   fair (k ∷ ks) =
       let y = givesAll T x ks in (

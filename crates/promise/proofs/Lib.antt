@@ -1,3 +1,7 @@
--- Acts: what a call makes of a context, by the act that it does on a record. Answers: when a message is taken as a COUNT, by what its opening finds.
+-- Acts: what a call makes of a context, by the act that it does on a record. Answers: when a message is taken as a COUNT, by what its opening finds. Kept: what
+-- is kept over any calls. Messages: messages opened after them. Limits.
 pub mod Acts
 pub mod Answers
+pub mod Kept
+pub mod Messages
+pub mod Limits

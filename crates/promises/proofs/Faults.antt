@@ -1,23 +1,16 @@
 -- What a context holds stays without fault, under null integrity too.
 use Prim.Native.Nat.{ℕ, zero, suc, _+_, _≤_, _<_}
-use mathlib.Core.Path.{_≡_, refl, sym, subst}
+use mathlib.Core.Path.{_≡_, refl}
 use mathlib.Core.Bool.{Bool, true, false, cond, _||_}
 use mathlib.Core.List.{List, [], _∷_}
 use native.Mathlib.Omega.{arith}
 use lib.ListN.{getD}
-use lib.Dec.{eqb, ltb}
+use lib.Dec.{ltb}
 use borrow.Author.Tests.{ltb-false}
-use Rattle.count.specs.declared.Opening.{Opening}
-use Rattle.count.specs.declared.Opening.the-variants.{Late, Forward, None, Wrong}
-use Rattle.count.specs.declared.Candidate.{Candidate}
 use Rattle.count.specs.declared.Candidate.the-variants.{Nothing}
-use Rattle.count.specs.declared.Record.{Record}
-use Rattle.count.specs.Rule.{exhausted, forwardOf, lateOf, try, opening, forwardOnly, useForward, useRound, useLate, resizeOf}
-use Rattle.count.specs.Run.{State, Act, stay, uses, resize, forward, late, round, act, actOf}
-use Rattle.count.specs.Facts.{When}
-use Rattle.count.specs.Machine.{seen}
-use Rattle.count.proofs.Candidates.{forward-found}
-use Rattle.count.proofs.Openings.{answers}
+use Rattle.count.specs.Rule.{exhausted, lateOf, opening, forwardOnly}
+use Rattle.count.specs.Run.{actOf}
+use Rattle.refusals.specs.Order.{_when_}
 use Rattle.refusals.proofs.Laws.{passed, off}
 use Rattle.nas_core.specs.Keyed.{wraps}
 use Rattle.nas_core.specs.Refusals.{unbuilt, coreRefusals, coreFault}
@@ -26,10 +19,11 @@ use Rattle.nas_5gs.specs.declared.Context.{Context}
 use Rattle.nas_5gs.specs.Places.{directionNo, bearerNo, placeOf, four, recordAt, nextAt, anyOver, contextRefusals, faultOf}
 use Rattle.nas_5gs.specs.Eps.{epsPlace, epsBearer, epsDirection}
 use Rattle.nas_5gs.specs.Containers.{containerPlace}
-use Rattle.promises.specs.Calls.{Call, setWindow, seal5gs, sealOpaque, open5gs, sealEps, openEps, makeN1ToS1, verifyN1ToS1, makeS1ToN1, verifyS1ToN1, gives, placeIn}
-use Rattle.promises.specs.Words.{recordOf}
-use Rattle.promises.proofs.Shapes.{next, refusalOf, passing, does, acts}
-use Rattle.promises.proofs.Soundness.{Four, if-passed, does-small, NextThere, next-there, record-after, size-under}
+use Rattle.promises.specs.Calls.{Call, setWindow, seal5gs, sealOpaque, open5gs, sealEps, openEps, makeN1ToS1, verifyN1ToS1, makeS1ToN1, verifyS1ToN1, gives}
+use Rattle.promises.proofs.Shapes.{refusalOf, passing, does, acts}
+use Rattle.promise.specs.Limits.{Bounded}
+use Rattle.promise.proofs.Limits.{next-bounded, tried-bounded, limits}
+use Rattle.promises.proofs.Soundness.{Four, machine, acting, if-passed, NextThere, next-there, stays-four}
 use Rattle.promises.proofs.Taking.{no-fault}
 
 pub record Faultless (x : Context) : Type 0 where
@@ -68,80 +62,38 @@ faultless x e =
       counts = by-place (nextAt x) (n .0) (n .1) (n .2) (n .3);
     }
 
--- a COUNT used forward is one
-abbrev Bounded : Act → Type 0
-Bounded stay = Unit {0}
-Bounded (uses forward c) = c < exhausted
-Bounded (uses late c) = Unit {0}
-Bounded (uses round c) = Unit {0}
-Bounded (resize n) = Unit {0}
-
-next-bounded : (w : Bool) (c : ℕ) → c < exhausted → Bounded (actOf w (Forward c))
-next-bounded true c h = tt
-next-bounded false c h = h
-
-tried-bounded : (w : Bool) (fit : ℕ → Bool) (l : Candidate) (r : Record) (s : ℕ) → Bounded (actOf w (try fit l (forwardOf 8 w r s)))
-tried-bounded w fit l r s = go (try fit l (forwardOf 8 w r s)) (answers fit l (forwardOf 8 w r s) (try fit l (forwardOf 8 w r s)) .0 refl)
-  where
-    go : (o : Opening) → When fit l (forwardOf 8 w r s) o → Bounded (actOf w o)
-    go (Late c) t = tt
-    go (Forward c) t = next-bounded w c (forward-found 8 w r s c (t .1) .0)
-    go None t = tt
-    go Wrong t = tt
-
 verify-bounded : (x : Context) (p b d q : ℕ) (m : List ℕ) → Bounded (actOf (wraps (x .core)) (verifyOf (x .core) (recordAt x p) b d q m))
 unfolding verifyOf opening
 verify-bounded x p b d q m =
-    tried-bounded (wraps (x .core)) (λ c. fits (x .core) c b d q m) (cond (wraps (x .core)) Nothing (lateOf 8 (x .core .size) (recordAt x p) (getD m (q + 4) 0)))
+    tried-bounded 8 (wraps (x .core)) (λ c. fits (x .core) c b d q m) (cond (wraps (x .core)) Nothing (lateOf 8 (x .core .size) (recordAt x p) (getD m (q + 4) 0)))
     (recordAt x p) (getD m (q + 4) 0)
 
 octet-bounded : (x : Context) (s : ℕ) → Bounded (passing (verifyN1ToS1 s) x)
 unfolding forwardOnly
-octet-bounded x s = tried-bounded (wraps (x .core)) (λ c. true) Nothing (recordAt x containerPlace) s
+octet-bounded x s = tried-bounded 8 (wraps (x .core)) (λ c. true) Nothing (recordAt x containerPlace) s
 
-passing-bounded : (k : Call) (x : Context) → NextThere k x → Bounded (passing k x)
-passing-bounded (setWindow n) x h = tt
-passing-bounded (seal5gs t d k inner out) x h = next-bounded (wraps (x .core)) (nextAt x (placeOf d k)) h
-passing-bounded (sealOpaque t d k inner out) x h = next-bounded (wraps (x .core)) (nextAt x (placeOf d k)) h
-passing-bounded (open5gs d k m out) x h = verify-bounded x (placeOf d k) (bearerNo k) (directionNo d) 2 m
-passing-bounded (sealEps inner out) x h = next-bounded (wraps (x .core)) (nextAt x epsPlace) h
-passing-bounded (openEps m out) x h = verify-bounded x epsPlace epsBearer epsDirection 1 m
-passing-bounded makeN1ToS1 x h = next-bounded (wraps (x .core)) (nextAt x containerPlace) h
-passing-bounded (verifyN1ToS1 s) x h = octet-bounded x s
-passing-bounded (makeS1ToN1 ncc ngksi out) x h = next-bounded (wraps (x .core)) (nextAt x containerPlace) h
-passing-bounded (verifyS1ToN1 v) x h = next-bounded (wraps (x .core)) (nextAt x containerPlace) h
+passing-bounded : (k : Call) (x : Context) → refusalOf k x ≡ 0 → NextThere k x → Bounded (passing k x)
+passing-bounded (setWindow n) x e h = ltb-false 64 n (off 14 (ltb 64 n) (omega arith) (passed (faultOf x ∷ 14 when (ltb 64 n) ∷ []) e 1))
+passing-bounded (seal5gs t d k inner out) x e h = next-bounded (wraps (x .core)) (nextAt x (placeOf d k)) h
+passing-bounded (sealOpaque t d k inner out) x e h = next-bounded (wraps (x .core)) (nextAt x (placeOf d k)) h
+passing-bounded (open5gs d k m out) x e h = verify-bounded x (placeOf d k) (bearerNo k) (directionNo d) 2 m
+passing-bounded (sealEps inner out) x e h = next-bounded (wraps (x .core)) (nextAt x epsPlace) h
+passing-bounded (openEps m out) x e h = verify-bounded x epsPlace epsBearer epsDirection 1 m
+passing-bounded makeN1ToS1 x e h = next-bounded (wraps (x .core)) (nextAt x containerPlace) h
+passing-bounded (verifyN1ToS1 s) x e h = octet-bounded x s
+passing-bounded (makeS1ToN1 ncc ngksi out) x e h = next-bounded (wraps (x .core)) (nextAt x containerPlace) h
+passing-bounded (verifyS1ToN1 v) x e h = next-bounded (wraps (x .core)) (nextAt x containerPlace) h
 
-seen-bounded : (p q : ℕ) (a : Act) → Bounded a → Bounded (seen p q a)
-seen-bounded p q stay h = tt
-seen-bounded p q (uses w c) h = go (eqb p q)
-  where
-    go : (t : Bool) → Bounded (cond t (uses w c) stay)
-    go true = h
-    go false = tt
-seen-bounded p q (resize n) h = tt
-
-next-under : (a : Act) (s : State) → Bounded a → s .at .next ≤ exhausted → act a s .at .next ≤ exhausted
-unfolding useForward useRound useLate resizeOf
-next-under stay s v h = h
-next-under (uses forward c) s v h = omega arith
-next-under (uses late c) s v h = h
-next-under (uses round c) s v h = omega arith
-next-under (resize n) s v h = h
+does-bounded : (k : Call) (x : Context) → Bounded (does k x)
+does-bounded k x = if-passed Bounded (refusalOf k x) (passing k x) tt (λ e. passing-bounded k x e (next-there k x e))
 
 pub stays-faultless : (k : Call) (x : Context) → Four x → Faultless x → Faultless (gives k x .context)
 stays-faultless k x four f =
     let a = acts k x four in
     let ki = a .keys-after .integrity in
     let kc = a .keys-after .ciphering in
-    record {
-      built = rw (← ki, ← kc) (f .built);
-      small = rw (a .size-after) (size-under (does k x) (recordOf (placeIn k) x) (does-small k x) (f .small));
-      counts = λ p h.
-          subst (λ (s : State). s .at .next ≤ exhausted) (sym (record-after k x four p h))
-          (next-under (seen p (placeIn k) (does k x)) (recordOf p x)
-          (seen-bounded p (placeIn k) (does k x) (if-passed Bounded (refusalOf k x) (passing k x) tt (λ e. passing-bounded k x (next-there k x e))))
-          (f .counts p h));
-    }
+    let l = limits Context Call machine Four acting k x four (does-bounded k x) record { small = f .small; counts = λ p h. f .counts p (omega arith) } in
+    record { built = rw (← ki, ← kc) (f .built); small = l .small; counts = λ p h. l .counts p (omega (arith, stays-four k x four)) }
 
 pub fault-stays : (k : Call) (x : Context) → Four x → faultOf x ≡ 0 → faultOf (gives k x .context) ≡ 0
 fault-stays k x four e =

@@ -1,5 +1,5 @@
 -- Shapes, Passing, Numbers: what calls share. Soundness, Faults: the calls as a machine of crate count. Opening, Taking: a sealed message and what opening it
--- leaves. Then a file for each statement, and Promises, all of them.
+-- leaves. Messages: the 5GS context as an instance of crate promise. Then a file for each statement, and Promises, all of them.
 pub mod Shapes
 pub mod Passing
 pub mod Numbers
@@ -7,6 +7,7 @@ pub mod Soundness
 pub mod Opening
 pub mod Taking
 pub mod Faults
+pub mod Messages
 pub mod Demand1
 pub mod Demand2
 pub mod Containers

@@ -1,16 +1,14 @@
 -- The calls as a machine of crate count: each does one valid act on one record.
-use Prim.Native.Nat.{ℕ, _+_, _≤_, _<_}
+use Prim.Native.Nat.{ℕ, _+_, _<_}
 use mathlib.Core.Path.{_≡_, refl, sym, ap, _∙_}
 use mathlib.Core.Bool.{Bool, true, false, cond}
 use mathlib.Core.List.{List, [], _∷_}
 use native.Mathlib.Omega.{arith}
 use lib.ListN.{length, getD}
-use lib.Dec.{eqb, ltb, leb}
-use borrow.Author.Tests.{eqb-true, eq-eqb, leb-false, ltb-false}
-use Rattle.count.specs.declared.Opening.{Opening}
-use Rattle.count.specs.declared.Opening.the-variants.{Late, Forward, None, Wrong}
+use lib.Dec.{eqb, leb}
+use borrow.Author.Tests.{eqb-true, eq-eqb, leb-false}
 use Rattle.count.specs.Rule.{exhausted, forwardOnly}
-use Rattle.count.specs.Run.{State, Act, stay, uses, resize, act, actOf, Valid}
+use Rattle.count.specs.Run.{Act, stay, uses, resize, act, actOf, Valid}
 use Rattle.count.specs.Machine.{seen, Machine, Acting, Sound}
 use Rattle.count.proofs.Openings.{opening-valid, forward-valid}
 use Rattle.count.proofs.Lifting.{length-after, view-gives}
@@ -27,7 +25,7 @@ use Rattle.nas_5gs.specs.Containers.{containerPlace, noneLeft, s1ToN1Refusals, 
 use Rattle.promises.specs.Calls.{Call, setWindow, seal5gs, sealOpaque, open5gs, sealEps, openEps, makeN1ToS1, verifyN1ToS1, makeS1ToN1, verifyS1ToN1, gives, placeIn}
 use Rattle.promises.specs.Words.{SameKeys, recordOf}
 use Rattle.promise.proofs.Acts.{unless}
-use Rattle.promises.proofs.Shapes.{next, refusalOf, passing, does, found, epsFound, octetFound, acts}
+use Rattle.promises.proofs.Shapes.{next, refusalOf, passing, does, acts}
 
 abbrev pub machine : Machine Context Call
 machine =
@@ -66,33 +64,6 @@ module _ (P : Act → Type 0) where
       go : (t : Bool) → eqb n 0 ≡ t → P (cond t a stay)
       go true e = f (eqb-true n 0 e)
       go false e = s
-
--- what is asked of every act: it is valid, and a new size is at most 64
-abbrev pub Small : Act → Type 0
-Small stay = Unit {0}
-Small (uses w c) = Unit {0}
-Small (resize n) = n ≤ 64
-
-found-small : (w : Bool) (o : Opening) → Small (actOf w o)
-found-small w (Late c) = tt
-found-small w (Forward c) = tt
-found-small w None = tt
-found-small w Wrong = tt
-
-passing-small : (k : Call) (x : Context) → refusalOf k x ≡ 0 → Small (passing k x)
-passing-small (setWindow n) x e = ltb-false 64 n (off 14 (ltb 64 n) (omega arith) (passed (faultOf x ∷ 14 when (ltb 64 n) ∷ []) e 1))
-passing-small (seal5gs t d k inner out) x e = tt
-passing-small (sealOpaque t d k inner out) x e = tt
-passing-small (open5gs d k m out) x e = found-small (wraps (x .core)) (found x (placeOf d k) (bearerNo k) (directionNo d) m out)
-passing-small (sealEps inner out) x e = tt
-passing-small (openEps m out) x e = found-small (wraps (x .core)) (epsFound x m out)
-passing-small makeN1ToS1 x e = tt
-passing-small (verifyN1ToS1 s) x e = found-small (wraps (x .core)) (octetFound x s)
-passing-small (makeS1ToN1 ncc ngksi out) x e = tt
-passing-small (verifyS1ToN1 v) x e = tt
-
-pub does-small : (k : Call) (x : Context) → Small (does k x)
-does-small k x = if-passed Small (refusalOf k x) (passing k x) tt (passing-small k x)
 
 -- a call that uses the next COUNT has one
 abbrev pub NextThere : Call → Context → Type 0
@@ -146,11 +117,6 @@ module _ (x : Context) (guarded : wraps (x .core) ≡ false) where
 
   pub does-valid : (k : Call) → Valid (does k x) (recordOf (placeIn k) x)
   does-valid k = if-passed (λ (a : Act). Valid a (recordOf (placeIn k) x)) (refusalOf k x) (passing k x) tt (λ e. passing-valid k (next-there k x e))
-
-pub size-under : (a : Act) (s : State) → Small a → s .size ≤ 64 → act a s .size ≤ 64
-size-under stay s v h = h
-size-under (uses w c) s v h = h
-size-under (resize n) s v h = v
 
 pub trans-keys : (x y z : Core) → SameKeys x y → SameKeys y z → SameKeys x z
 trans-keys x y z a b =

@@ -48,7 +48,7 @@ use Rattle.promises.proofs.Shapes.{does, acts}
 use Rattle.promises.proofs.Soundness.{does-valid, own-after}
 use Rattle.promises.proofs.Passing.{passes, gives-passed}
 use Rattle.promises.proofs.Taking.{no-fault}
-use Rattle.promises.proofs.Demand3.{started, good-now, keeps}
+use Rattle.promises.proofs.Demand3.{started, guarded-now, keeps}
 
 -- an answer is read back from its values
 abbrev changeRead : Values → ChangeAnswer
@@ -222,7 +222,7 @@ as-next G r e =
 window-set : (x : Context) → Fresh x → gives (setWindow 8) x ≡ passes (setWindow 8) x
 window-set x f =
     let s = started x f in
-    gives-passed (setWindow 8) x (simp (no-fault x (s .ok .built) (s .ok .small) (s .ok .counts)))
+    gives-passed (setWindow 8) x (simp (no-fault x (s .beginning .ok .built) (s .beginning .ok .small) (s .beginning .ok .counts)))
 
 sized : (x : Context) → Fresh x → let y = gives (setWindow 8) x .context in (nextAt y 0 ≡ 0) × (y .core .size ≡ 8)
 unfolding resized resizeOf
@@ -243,7 +243,7 @@ moved x f m out u e =
     let y = gives (setWindow 8) x .context in
     let k = open5gs Uplink ThreeGpp m out in
     let s = started x f in
-    let g = good-now x (s .good) (s .ok) (setWindow 8 ∷ []) in
+    let g = guarded-now x (s .beginning) (setWindow 8 ∷ []) .good in
     let w = sized x f in
     let c : used (does k y) ≡ 5 ∷ [] = sym (acts k y (g .four) .counts) ∙ rw (u, e) in
     let t = used-five (does k y) (recordOf 0 y) (does-valid y (g .guarded) k) c (w .0) in

@@ -106,6 +106,11 @@ small i n h b =
     let l : i ≤ 15 = omega arith in
     omega (arith, pow-le-pow-right {n = 16} a {i = i} {j = 15} l)
 
+pub wider : (i m n : ℕ) → i ≤ m → n < 16 ^ i → n < 16 ^ m
+wider i m n h b =
+    let a : 0 < 16 = omega arith in
+    omega (arith, pow-le-pow-right {n = 16} a {i = i} {j = m} h)
+
 pub grown : (i n m : ℕ) → n < 16 ^ i → m < n * 16 + 16 → m < 16 ^ suc i
 grown i n m h k = omega (arith, pow-suc 16 i)
 

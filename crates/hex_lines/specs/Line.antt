@@ -1,29 +1,18 @@
 -- A line: words with one space between them. Assumes nothing.
-use Prim.Native.Nat.{ℕ, _+_, _/_, _%_}
+use Prim.Native.Nat.{ℕ, _/_, _%_}
 use mathlib.Core.Bool.{Bool, cond, _&&_}
 use mathlib.Core.List.{List, [], _∷_}
 use lib.Dec.{leb, eqb}
-use lib.ListN.{length, getD, take, drop}
+use lib.ListN.{length}
 use lib.Seq.{paste}
-use Rattle.hex_lines.specs.Hex.{areDigits, numberAfter, octetsOf}
-use Rattle.hex_lines.specs.declared.Number.{Number}
-use Rattle.hex_lines.specs.declared.Number.the-variants.{Bad, Value}
+use Rattle.hex_lines.specs.Hex.{areDigits, octetsOf}
 use Rattle.hex_lines.specs.declared.Decoded.{Decoded}
-use Rattle.hex_lines.specs.declared.Decoded.the-variants.{Long, Octets, Bad as None}
+use Rattle.hex_lines.specs.declared.Decoded.the-variants.{Long, Octets, Bad}
 
 -- what stands before the first octet that is `stop`: a word before a space, a line before LF
 unfoldable pub upTo : ℕ → List ℕ → List ℕ
 upTo stop [] = []
 upTo stop (c ∷ cs) = cond (eqb c stop) [] (c ∷ upTo stop cs)
-
--- a number of at most 16 digits
-unfoldable pub numberIn : List ℕ → Number
-numberIn text = cond (leb (length text) 16 && areDigits text) (Value (numberAfter 0 text)) Bad
-
--- at a place of a line: a space, then a number of so many digits
-unfoldable pub fieldAt : List ℕ → ℕ → ℕ → Number
-fieldAt line at digits =
-    cond (leb (at + 1 + digits) (length line) && eqb (getD line at 0) 32) (numberIn (take digits (drop (at + 1) line))) Bad
 
 -- octets as text are an even run of digits
 unfoldable pub areOctets : List ℕ → Bool
@@ -32,7 +21,7 @@ areOctets text = eqb (length text % 2) 0 && areDigits text
 -- the octets that a text is, where an output has room for so many of them
 unfoldable pub decodedOf : List ℕ → ℕ → Decoded
 decodedOf text room =
-    cond (areOctets text) (cond (leb (length text / 2) room) (Octets (length text / 2)) Long) None
+    cond (areOctets text) (cond (leb (length text / 2) room) (Octets (length text / 2)) Long) Bad
 
 -- the output after them
 unfoldable pub written : List ℕ → List ℕ → List ℕ

@@ -7,14 +7,9 @@ pub use print::put_number;
 pub use print::put_octets;
 pub use print::put_text;
 pub use read::decode;
-pub use read::field;
 pub use read::find;
-
-// A number as text, or text that is none.
-pub enum Number {
-    Bad,
-    Value(u64),
-}
+pub use read::is_digit;
+pub use read::value;
 
 // Octets as text: how many, or too many for the output, or text that is none.
 pub enum Decoded {

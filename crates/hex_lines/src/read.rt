@@ -1,14 +1,13 @@
 // Reading.
 ghost use mathlib.Core.Path.{_≡_};
-ghost use Prim.Native.Nat.{_+_, _*_, _/_, _≤_, _<_};
+ghost use Prim.Native.Nat.{_+_, _*_, _/_, _^_, _≤_, _<_};
 ghost use lib.ListN.{length, drop};
 ghost use lib.Seq.{paste};
 ghost use Rattle.hex_lines.specs.Hex.{isDigit, digitOf, areDigits, numberAfter, octetsOf};
-ghost use Rattle.hex_lines.specs.Line.{upTo, numberIn, fieldAt, decodedOf, written};
+ghost use Rattle.hex_lines.specs.Line.{upTo, decodedOf, written};
 use crate::Decoded;
-use crate::Number;
 
-fn is_digit(c: u8) -> bool
+pub fn is_digit(c: u8) -> bool
     ensures { λ r. ⌜ r ≡ isDigit c ⌝ }
 {
     if c < 48 {
@@ -77,9 +76,9 @@ fn after(n: u64, c: u8) -> u64
 }
 
 // The number that a run of at most 16 digits is.
-fn value(text: &[u8]) -> u64
+pub fn value(text: &[u8]) -> u64
     requires { ⌜ length (now text) ≤ 16 ⌝ }
-    ensures { λ r. ⌜ r ≡ numberAfter 0 (now (text .entry)) ⌝ }
+    ensures { λ r. ⌜ (r ≡ numberAfter 0 (now (text .entry))) × (r < 16 ^ length (now (text .entry))) ⌝ }
 {
     let mut n = 0;
     let mut i = 0;
@@ -88,37 +87,6 @@ fn value(text: &[u8]) -> u64
         i += 1;
     }
     n
-}
-
-fn number_in(text: &[u8]) -> Number
-    ensures { λ r. ⌜ r ≡ numberIn (now (text .entry)) ⌝ }
-{
-    if 16 < text.len() {
-        return Number::Bad;
-    }
-    if are_digits(text) {
-        return Number::Value(value(text));
-    }
-    Number::Bad
-}
-
-// At a place of a line: a space, then a number of so many digits.
-pub fn field(line: &[u8], at: usize, digits: usize) -> Number
-    requires { ⌜ digits ≤ 16 ⌝ }
-    ensures { λ r. ⌜ r ≡ fieldAt (now (line .entry)) at digits ⌝ }
-{
-    if line.len() <= at {
-        return Number::Bad;
-    }
-    let from = at + 1;
-    if line.len() - from < digits {
-        return Number::Bad;
-    }
-    if line[at] != 32 {
-        return Number::Bad;
-    }
-    let end = from + digits;
-    number_in(&line[from..end])
 }
 
 fn octet(c: u8, d: u8) -> u8

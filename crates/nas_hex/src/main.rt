@@ -1,21 +1,93 @@
-// Reads hex lines from standard input, makes a call for each on one of eight contexts, and prints one line for each.
-use hex_words::line::Line;
-use hex_words::names;
-use hex_words::print;
-use hex_words::words;
-use hex_words::words::Place;
+// Reads hex lines from standard input, performs each on one of eight contexts, and prints one line for each.
+ghost use Prim.Native.Nat.{_+_, _≤_};
+ghost use lib.ListN.{length};
+
+mod reading;
+mod watch;
+
+use hex_parse::Line;
+use hex_perform::Done;
 use nas_5gs::Context;
 
-// What is kept from line to line: the slots, the line that is being read, and the place after what is printed.
+// What is kept from line to line: the slots, how much of the line that is being read is held, and the place after what is printed.
 struct Session {
     slots: [Context; 8],
-    line: Line,
+    held: usize,
     at: usize,
 }
 
 struct Turn {
     session: Session,
     is_last: bool,
+    is_error: bool,
+}
+
+// So many octets of the output, of those that there are and that a line can print.
+fn lendable(room: usize, have: usize) -> usize
+    ensures { λ r. ⌜ (r ≤ have) × (r ≤ 65536) ⌝ }
+{
+    if have < room {
+        return lendable_of(have);
+    }
+    lendable_of(room)
+}
+
+fn lendable_of(n: usize) -> usize
+    ensures { λ r. ⌜ (r ≤ n) × (r ≤ 65536) ⌝ }
+{
+    if n < 65536 {
+        return n;
+    }
+    65536
+}
+
+fn front(octets: &[u8], n: usize) -> &[u8] {
+    if octets.len() < n {
+        return octets;
+    }
+    &octets[..n]
+}
+
+fn flush(print: &[u8], at: usize) {
+    if at <= print.len() {
+        io::write_all(1, &print[..at]);
+    }
+}
+
+// The place for one line more: the front, with what is there written out, if there is no room behind it.
+fn room(print: &[u8], at: usize) -> usize
+    requires { ⌜ 133000 ≤ length (now print) ⌝ }
+    ensures { λ r. ⌜ r + 133000 ≤ length (now (print .entry)) ⌝ }
+{
+    if at <= print.len() - hex_print::LONGEST {
+        return at;
+    }
+    flush(print, at);
+    0
+}
+
+// The call on a context, with n octets of output lent.
+fn performed(line: Line, context: Context, octets: &[u8], lent: &mut [u8], n: usize) -> Done
+    requires { ⌜ n ≤ length (now lent) ⌝ }
+{
+    hex_perform::fill(&mut lent[..n]);
+    hex_perform::perform(line, context, octets, &mut lent[..n])
+}
+
+fn printed(
+    done: Done,
+    lent: &[u8],
+    n: usize,
+    is_changed: bool,
+    print: &mut [u8; 266000],
+    at: usize,
+) -> usize
+    requires { ⌜ (n ≤ length (now lent)) × (n ≤ 65536) ⌝ }
+{
+    let answer = done.answer;
+    let context = done.context;
+    let from = room(print, at);
+    hex_print::put_line(answer, context, &lent[..n], is_changed, print, from)
 }
 
 impl Session {
@@ -25,52 +97,29 @@ impl Session {
         let context = refused.context;
         Session {
             slots: [context; 8],
-            line: Line::new(),
+            held: 0,
             at: 0,
         }
-    }
-
-    fn bad(mut self, print: &mut [u8; 65536]) -> Session {
-        self.at = hex_answers::bad_line(print, self.at);
-        self
     }
 
     // Answers the line that was read, and begins the next one.
     fn answered(
         mut self,
-        head: &[u8],
-        octets: &[u8],
+        text: &[u8],
+        octets: &mut [u8],
         lent: &mut [u8],
-        print: &mut [u8; 65536],
+        print: &mut [u8; 266000],
     ) -> Session {
-        let line = self.line;
-        self.line = Line::new();
-        let text = words::front(head, line.head_length());
-        let name_end = hex_lines::find(text, 0, 32);
-        let start = Place {
-            at: name_end,
-            bad: !line.is_whole(),
-        };
-        let word = start.number(text, 1);
-        if 7 < word.value {
-            return self.bad(print);
-        }
-        let slot = words::slot(word.value);
+        let line = hex_parse::parse(front(text, self.held), octets);
+        self.held = 0;
+        let slot = line.slot % 8;
         let before = self.slots[slot];
-        let done = hex_calls::perform(
-            names::named(words::front(text, name_end)),
-            text,
-            word.place,
-            before,
-            line.long,
-            words::front(octets, line.octets),
-            lent,
-            print,
-            self.at,
-        );
+        let n = lendable(line.room, lent.len());
+        let done = performed(line, before, front(octets, line.octets), lent, n);
+        let is_changed = watch::is_changed(line, done, before);
+        self.at = printed(done, lent, n, is_changed, print, self.at);
         let after = done.context;
         self.slots[slot] = after;
-        self.at = done.at;
         self
     }
 
@@ -79,16 +128,14 @@ impl Session {
         mut self,
         piece: &[u8],
         is_end: bool,
-        head: &mut [u8],
+        text: &mut [u8],
         octets: &mut [u8],
         lent: &mut [u8],
-        print: &mut [u8; 65536],
+        print: &mut [u8; 266000],
     ) -> Session {
-        let line = self.line;
-        let next = line.taken(piece, head, octets);
-        self.line = next;
+        self.held = reading::held(piece, text, self.held);
         if is_end {
-            return self.answered(head, octets, lent, print);
+            return self.answered(text, octets, lent, print);
         }
         self
     }
@@ -97,20 +144,20 @@ impl Session {
     fn taken(
         self,
         input: &[u8],
-        head: &mut [u8],
+        text: &mut [u8],
         octets: &mut [u8],
         lent: &mut [u8],
-        print: &mut [u8; 65536],
+        print: &mut [u8; 266000],
     ) -> Session {
         let mut session = self;
         let mut at = 0;
         while at < input.len() {
             let end = hex_lines::find(input, at, 10);
             if end == input.len() {
-                return session.with(&input[at..end], false, head, octets, lent, print);
+                return session.with(&input[at..end], false, text, octets, lent, print);
             }
             let after = end + 1;
-            let next = session.with(&input[at..end], true, head, octets, lent, print);
+            let next = session.with(&input[at..end], true, text, octets, lent, print);
             session = next;
             at = after;
         }
@@ -118,44 +165,47 @@ impl Session {
     }
 
     fn flushed(mut self, print: &[u8]) -> Session {
-        print::flush(print, self.at);
+        flush(print, self.at);
         self.at = 0;
         self
     }
 }
 
-fn read_in(input: &mut [u8]) -> usize {
-    io::count(libc::read(0, input), input)
-}
-
-// Reads once and answers the lines that came, and says whether to go on.
+// Reads once and answers the lines that came, and says whether to go on. A read that fails is not the end of the input.
 fn read_some(
     session: Session,
     input: &mut [u8],
-    head: &mut [u8],
+    text: &mut [u8],
     octets: &mut [u8],
     lent: &mut [u8],
-    print: &mut [u8; 65536],
+    print: &mut [u8; 266000],
 ) -> Turn {
-    let n = read_in(input);
-    if n == 0 {
+    let got = libc::read(0, input);
+    if got <= 0 {
         return Turn {
             session,
             is_last: true,
+            is_error: got < 0,
         };
     }
-    let taken = session.taken(words::front(input, n), head, octets, lent, print);
+    let n = io::count(got, input);
+    let taken = session.taken(front(input, n), text, octets, lent, print);
     Turn {
         session: taken.flushed(print),
         is_last: false,
+        is_error: false,
     }
 }
 
-// What follows the last line end is a line too.
-fn finish(session: Session, head: &[u8], octets: &[u8], lent: &mut [u8], print: &mut [u8; 65536]) {
-    let line = session.line;
-    if line.head != 0 {
-        let last = session.answered(head, octets, lent, print);
+// What follows the last line end is a line too, if the input ended there; if a read failed, it is not known to be one.
+fn finish(turn: Turn, text: &[u8], octets: &mut [u8], lent: &mut [u8], print: &mut [u8; 266000]) {
+    if turn.is_error {
+        io::write_all(2, b"nas_hex: a read failed\n");
+        return;
+    }
+    let session = turn.session;
+    if session.held != 0 {
+        let last = session.answered(text, octets, lent, print);
         last.flushed(print);
     }
 }
@@ -164,38 +214,42 @@ fn finish(session: Session, head: &[u8], octets: &[u8], lent: &mut [u8], print: 
 fn run(
     session: Session,
     input: &mut [u8],
-    head: &mut [u8],
+    text: &mut [u8],
     octets: &mut [u8],
     lent: &mut [u8],
-    print: &mut [u8; 65536],
-) -> Session {
-    let mut state = session;
+    print: &mut [u8; 266000],
+) -> Turn {
+    let mut turn = Turn {
+        session,
+        is_last: false,
+        is_error: false,
+    };
     let mut turns = u64::MAX;
     while turns > 0 {
-        let done = read_some(state, input, head, octets, lent, print);
-        let next = done.session;
-        state = next;
-        if done.is_last {
-            return state;
+        let state = turn.session;
+        let next = read_some(state, input, text, octets, lent, print);
+        turn = next;
+        if turn.is_last {
+            return turn;
         }
         turns -= 1;
     }
-    state
+    turn
 }
 
 fn main() {
     let mut input = io::large_buffer();
-    let mut head = [0u8; 256];
+    let mut text = [0u8; 131136];
     let mut octets = io::large_buffer();
     let mut lent = io::large_buffer();
-    let mut print = [0u8; 65536];
-    let session = run(
+    let mut print = [0u8; 266000];
+    let turn = run(
         Session::new(),
         &mut input,
-        &mut head,
+        &mut text,
         &mut octets,
         &mut lent,
         &mut print,
     );
-    finish(session, &head, &octets, &mut lent, &mut print);
+    finish(turn, &text, &mut octets, &mut lent, &mut print);
 }

@@ -17,4 +17,5 @@ pub mod Delivery
 pub mod Null
 pub mod Isolation
 pub mod Tightness
+pub mod Lent
 pub mod Promises

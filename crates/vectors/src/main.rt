@@ -63,25 +63,25 @@ fn octet(text: &[u8]) -> u8 {
 
 // How many octets a word has, at most a buffer's.
 fn size(text: &[u8]) -> usize
-    ensures { λ r. ⌜ r ≤ 256 ⌝ }
+    ensures { λ r. ⌜ r ≤ 4096 ⌝ }
 {
     let n = text.len() / 2;
-    if n < 256 { n } else { 256 }
+    if n < 4096 { n } else { 4096 }
 }
 
-fn octets(text: &[u8]) -> [u8; 256]
-    ensures { λ r. ⌜ 256 ≡ length r ⌝ }
+fn octets(text: &[u8]) -> [u8; 4096]
+    ensures { λ r. ⌜ 4096 ≡ length r ⌝ }
 {
-    let mut b = [0u8; 256];
+    let mut b = [0u8; 4096];
     hex_lines::decode(text, &mut b);
     b
 }
 
 fn show(name: &[u8], result: &[u8]) {
-    if 256 < result.len() {
+    if 4096 < result.len() {
         return;
     }
-    let mut text = [0u8; 512];
+    let mut text = [0u8; 8192];
     let n = hex_lines::put_octets(result, &mut text, 0);
     io::write_all(1, name);
     io::write_all(1, b" ");

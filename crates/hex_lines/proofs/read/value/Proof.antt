@@ -27,7 +27,10 @@ loop-again c = (
 )
 
 returns : tie.Need-returns Inv-loop μ-loop
-returns c = laws.number-end _ (c .before .loop .i) _ (omega arith) (c .before .loop .inv .2)
+returns c = (
+  laws.number-end _ (c .before .loop .i) _ (omega arith) (c .before .loop .inv .2),
+  laws.wider (c .before .loop .i) _ _ (omega arith) (c .before .loop .inv .1),
+)
 
 pub value-spec : {M : Type 1} → statement M
 value-spec =

@@ -1,17 +1,16 @@
--- Each turn takes in a line or a piece of one; the buffers keep their lengths.
 use Prim.Native.Nat.{_-_, _≤_}
 use mathlib.Core.Path.{_≡_}
-use borrow.Author.Needs.{needs}
 use lib.ListN.{length}
+use borrow.Author.Needs.{needs}
 use Rattle.nas_hex.proofs.Session.taken.Statement.{statement}
 use Rattle.nas_hex.proofs.Session.taken.Tie as tie
 
 abbrev Inv-loop : tie.InvT-loop
-Inv-loop input head₀ octets₀ lent₀ print₀ session₀ at₀ head octets lent print session at =
-    (at ≤ length input) × (length head ≡ length head₀) × (length octets ≡ length octets₀) × (length lent ≡ length lent₀)
+Inv-loop input text₀ octets₀ lent₀ print₀ session₀ at₀ text octets lent print session at =
+    (at ≤ length input) × (length text ≡ length text₀) × (length octets ≡ length octets₀) × (length lent ≡ length lent₀)
 
 abbrev μ-loop : tie.MeasureT-loop
-μ-loop input head₀ octets₀ lent₀ print₀ session₀ at₀ head octets lent print session at = length input - at
+μ-loop input text₀ octets₀ lent₀ print₀ session₀ at₀ text octets lent print session at = length input - at
 
 pub taken-spec : {M : Type 1} → statement M
 taken-spec =

@@ -1,0 +1,15 @@
+use borrow.Author.Tests.{lt-ltb, le-ltb, le-leb, lt-leb, eq-eqb, ne-eqb}
+use Rattle.hex_parse.proofs.form.is_between.Statement.{statement}
+use Rattle.hex_parse.proofs.form.is_between.Tie as tie
+
+returns : tie.Need-returns
+returns c = rw (lt-leb _ _ (c .if1 .taken))
+
+returns-2 : tie.Need-returns-2
+returns-2 c = rw (le-leb _ _ (c .if1 .left))
+
+pub is-between-spec : {M : Type 1} → statement M
+is-between-spec =
+    tie.close
+    (tie.spec
+    returns returns-2)

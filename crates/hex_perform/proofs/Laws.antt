@@ -1,0 +1,38 @@
+-- A library call's equation as the performer's; the filled output.
+use Prim.Native.Nat.{ℕ, _≤_, _<_, _+_}
+use mathlib.Core.Path.{_≡_, sym, ap, _∙_}
+use mathlib.Core.Bool.{Bool, false, cond}
+use mathlib.Core.List.{List, append-nil}
+use native.Mathlib.Omega.{arith}
+use lib.ListN.{length, replicate, length-replicate, getD-replicate, drop-of-length-le, set}
+use lib.Seq.{take-all, paste}
+use Rattle.nas_5gs.specs.Leaves.{Leaves, leaves}
+use Rattle.nas_5gs.specs.declared.Context.{Context}
+use Rattle.hex_lines.proofs.Laws as hex
+use Rattle.hex_perform.specs.declared.Answer.{Answer}
+use Rattle.hex_parse.specs.declared.Line.{Line}
+use Rattle.hex_perform.specs.declared.Answer.the-variants.{Refused}
+use Rattle.hex_perform.specs.Answers.{writing}
+use Rattle.hex_perform.specs.Perform.{callOf, performOf}
+
+pub answered : {A : Type 0} (f : A → Answer) (a : A) (r : Answer) (x y : Context) (o : List ℕ) (l : Leaves A)
+    → r ≡ f a → y ≡ x → leaves a x o ≡ l → leaves r y o ≡ writing f l
+answered f a r x y o l p q e = rw (p, q) (ap (writing f) e)
+
+pub held : (l : Line) (x : Context) (o out : List ℕ) (left : Leaves Answer) → l .long ≡ false
+    → left ≡ callOf (l .call) l x o out → left ≡ performOf l x o out
+unfolding performOf
+held l x o out left h e = e ∙ sym (ap (λ (b : Bool). cond b (leaves (Refused 4) x out) (callOf (l .call) l x o out)) h)
+
+module _ (d out : List ℕ) (i : ℕ) (so-far : out ≡ paste d 0 (replicate (length d) 165) i) where
+  same-length : length (replicate {A = ℕ} (length d) 165) ≡ length d
+  same-length = length-replicate (length d) 165
+
+  pub fill-more : i < length d → set out i 165 ≡ paste d 0 (replicate (length d) 165) (i + 1)
+  fill-more h =
+      hex.put-front d (replicate (length d) 165) out i 165 so-far h (omega (arith, same-length)) (sym (getD-replicate (length d) i 165 0 h))
+
+  pub filled : length d ≤ i → out ≡ replicate (length d) 165
+  filled h =
+      let all : List ℕ = replicate (length d) 165 in
+      so-far ∙ rw (take-all i all (omega (arith, same-length)), drop-of-length-le d {i = 0 + i} (omega arith), append-nil)

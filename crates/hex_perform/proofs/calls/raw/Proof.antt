@@ -1,0 +1,15 @@
+use Rattle.hex_perform.specs.Perform.{rawContext}
+use borrow.Author.Needs.{needs}
+use Rattle.hex_perform.proofs.calls.raw.Statement.{statement}
+use Rattle.hex_perform.proofs.calls.raw.Tie as tie
+
+returns : tie.Need-returns
+unfolding rawContext
+returns c = search needs
+
+pub raw-spec : {M : Type 1} → statement M
+raw-spec =
+    tie.close
+    (tie.spec
+    (λ c. search needs) (λ c. search needs) (λ c. search needs) (λ c. search needs) (λ c. search needs)
+    (λ c. search needs) (λ c. search needs) (λ c. search needs) returns)

@@ -1,0 +1,45 @@
+-- The answers of the library's calls as one value.
+use Prim.Native.Nat.{ℕ}
+use mathlib.Core.List.{List}
+use Rattle.nas_5gs.specs.Leaves.{Leaves, leaves}
+use Rattle.nas_5gs.specs.declared.ChangeAnswer.{ChangeAnswer}
+use Rattle.nas_5gs.specs.declared.ChangeAnswer.the-variants as change
+use Rattle.nas_5gs.specs.declared.UseAnswer.{UseAnswer}
+use Rattle.nas_5gs.specs.declared.UseAnswer.the-variants as use′
+use Rattle.nas_5gs.specs.declared.OctetAnswer.{OctetAnswer}
+use Rattle.nas_5gs.specs.declared.OctetAnswer.the-variants as octet
+use Rattle.nas_5gs.specs.declared.OpenAnswer.{OpenAnswer}
+use Rattle.nas_5gs.specs.declared.OpenAnswer.the-variants as open′
+use Rattle.nas_5gs.specs.declared.EpsOpenAnswer.{EpsOpenAnswer}
+use Rattle.nas_5gs.specs.declared.EpsOpenAnswer.the-variants as eps
+use Rattle.hex_perform.specs.declared.Answer.{Answer}
+use Rattle.hex_perform.specs.declared.Answer.the-variants.{Done, Refused, Used, Made, Opened, Content, EpsContent}
+
+abbrev pub changeAnswer : ChangeAnswer → Answer
+changeAnswer (change.Refused n) = Refused n
+changeAnswer change.Done = Done
+
+abbrev pub useAnswer : UseAnswer → Answer
+useAnswer (use′.Refused n) = Refused n
+useAnswer (use′.Used c w) = Used c w
+
+abbrev pub octetAnswer : OctetAnswer → Answer
+octetAnswer (octet.Refused n) = Refused n
+octetAnswer (octet.Made c o) = Made c o
+
+abbrev pub openAnswer : OpenAnswer → Answer
+openAnswer (open′.Refused n) = Refused n
+openAnswer (open′.Accepted c w t) = Opened c w t
+openAnswer (open′.Content c w t n) = Content c w t n
+
+abbrev pub epsAnswer : EpsOpenAnswer → Answer
+epsAnswer (eps.Refused n) = Refused n
+epsAnswer (eps.Accepted c w) = Used c w
+epsAnswer (eps.Content c w n) = EpsContent c w n
+
+-- what a call leaves, with its answer as that value: it writes to the lent output, or it is lent none and `out` stays
+abbrev pub writing : {A : Type 0} → (A → Answer) → Leaves A → Leaves Answer
+writing f (leaves a x o) = leaves (f a) x o
+
+abbrev pub keeping : {A : Type 0} → List ℕ → Leaves A → Leaves A
+keeping out (leaves a x o) = leaves a x out

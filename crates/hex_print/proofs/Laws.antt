@@ -1,0 +1,85 @@
+-- Texts behind one another.
+use Prim.Native.Nat.{ℕ, suc, _+_, _-_, _*_, _/_, _%_, _≤_, _<_}
+use mathlib.Core.Path.{_≡_, refl, sym, ap, _∙_}
+use mathlib.Core.Bool.{Bool, true, false, cond, _&&_}
+use mathlib.Core.List.{List, [], _∷_, _++_, append-assoc, append-nil}
+use native.Mathlib.Numerals.{add-one}
+use native.Mathlib.Omega.{arith}
+use borrow.Author.Tests.{lt-ltb, le-ltb, eq-eqb, ne-eqb}
+use lib.Dec.{ltb, eqb}
+use lib.ListN.{length, getD, take, drop, drop-of-length-le, length-drop}
+use lib.Seq.{paste, take-paste, take-all, take-nil, take-length, drop-length, drop-cons, length-take-le}
+use Rattle.hex_lines.specs.Hex.{textOf, decimalOf, bigEndian}
+use Rattle.hex_lines.proofs.Laws as hex
+use Rattle.hex_print.specs.Words.{Puts, octetsWord}
+use Rattle.hex_print.specs.Lines.{wroteOf, answerText, isKept, tailText, contextText, lineText}
+use Rattle.hex_perform.specs.declared.Answer.{Answer}
+use Rattle.nas_5gs.specs.declared.Context.{Context}
+
+pub pasted : {l m t : List ℕ} {at n r : ℕ} → r ≡ at + n → m ≡ paste l at t n → n ≡ length t → at ≤ length l → Puts l at t m r
+pasted {l} {m} {t} {at} {n} {r} e f g h = record {
+  put = rw (e, f) (take-paste l at t n h (omega arith) ∙ ap (λ (x : List ℕ). take at l ++ x) (take-all n t (omega arith)));
+}
+
+pub behind : {l m k s t : List ℕ} {at i r : ℕ} → Puts l at s m i → Puts m i t k r → Puts l at (s ++ t) k r
+behind {l} {m} {k} {s} {t} {at} {i} {r} p q =
+    record { put = q .put ∙ ap (λ (x : List ℕ). x ++ t) (p .put) ∙ append-assoc (take at l) s t }
+
+pub nothing : (l : List ℕ) (at : ℕ) → Puts l at [] l at
+nothing l at = record { put = sym (append-nil (take at l)) }
+
+pub number-length : (x n : ℕ) → n ≤ 8 → n * 2 ≡ length (textOf (drop (8 - n) (bigEndian x)))
+number-length x n h = omega (arith, hex.text-length (drop (8 - n) (bigEndian x)), hex.last-octets x n h)
+
+pub decimal-short : (n : ℕ) → length (decimalOf n) ≤ 3
+unfolding decimalOf
+decimal-short n = two (ltb n 10) (ltb n 100)
+  where
+    two : (a b : Bool) → length (cond a ((n + 48) ∷ []) (cond b ((n / 10 + 48) ∷ (n % 10 + 48) ∷ []) ((n / 100 + 48) ∷ (n / 10 % 10 + 48) ∷ (n % 10 + 48) ∷ []))) ≤ 3
+    two true b = omega arith
+    two false true = omega arith
+    two false false = omega arith
+
+pub no-octets : (o : List ℕ) → length o ≡ 0 → octetsWord o ≡ 32 ∷ 45 ∷ []
+unfolding octetsWord
+no-octets [] e = refl
+no-octets (b ∷ bs) e = absurd (omega arith)
+
+pub some-octets : (o : List ℕ) → (length o ≡ 0 → ⊥) → octetsWord o ≡ 32 ∷ textOf o
+unfolding octetsWord
+some-octets [] e = absurd (e refl)
+some-octets (b ∷ bs) e = refl
+
+module _ (text : List ℕ) (at : ℕ) where
+  pub beyond : (k : ℕ) → length text < at → take k (drop (length text) text) ≡ drop at text
+  beyond k h = let l : length text ≤ at = omega arith in rw (drop-length text, take-nil k, drop-of-length-le text {i = at} l)
+
+  pub all : take (length text - at) (drop at text) ≡ drop at text
+  all = take-all (length text - at) (drop at text) (omega (arith, length-drop at text))
+
+  pub whole : length text < at → text ≡ take at text
+  whole h = sym (take-all at text (omega arith))
+
+module _ (rest : List ℕ) (i : ℕ) where
+  more : i < length rest → isKept (drop i rest) ≡ (eqb (getD rest i 0) 0xa5 && isKept (drop (suc i) rest))
+  unfolding isKept
+  more h = rw (drop-cons rest i 0)
+
+  pub stop : i < length rest → (getD rest i 0 ≡ 0xa5 → ⊥) → isKept (drop i rest) ≡ isKept rest → false ≡ isKept rest
+  stop h n g = sym (sym g ∙ more h ∙ rw (ne-eqb (getD rest i 0) 0xa5 n))
+
+  pub go : i < length rest → getD rest i 0 ≡ 0xa5 → isKept (drop i rest) ≡ isKept rest → isKept (drop (i + 1) rest) ≡ isKept rest
+  go h n g = rw add-one (sym (more h ∙ rw (eq-eqb (getD rest i 0) 0xa5 n)) ∙ g)
+
+  pub end : length rest ≤ i → isKept (drop i rest) ≡ isKept rest → true ≡ isKept rest
+  unfolding isKept
+  end h e = sym (ap isKept (drop-of-length-le rest {i = i} h)) ∙ e
+
+pub lined : {l m : List ℕ} {at r : ℕ} (a : Answer) (x : Context) (out f t : List ℕ) (changed : Bool) (n : ℕ) → n ≡ wroteOf a
+    → f ≡ take n out → t ≡ drop n out → Puts l at (answerText a x f ++ tailText t ++ contextText changed ++ (10 ∷ [])) m r
+    → Puts l at (lineText a x out changed) m r
+unfolding lineText
+lined a x out f t changed n e p q h =
+    let front : f ≡ take (wroteOf a) out = p ∙ ap (λ (k : ℕ). take k out) e in
+    let rest : t ≡ drop (wroteOf a) out = q ∙ ap (λ (k : ℕ). drop k out) e in
+    rw (← front, ← rest) h

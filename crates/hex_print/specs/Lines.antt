@@ -1,0 +1,77 @@
+-- The line of an answer (docs/HEX-LINES.md, "Answers").
+use Prim.Native.Nat.{ℕ}
+use mathlib.Core.Bool.{Bool, true, cond, _&&_}
+use mathlib.Core.List.{List, [], _∷_, _++_}
+use lib.Dec.{eqb}
+use lib.ListN.{take, drop}
+use Rattle.hex_lines.specs.Hex.{textOf}
+use Rattle.count.specs.declared.Record.{Record}
+use Rattle.nas_core.specs.declared.Core.{Core}
+use Rattle.nas_5gs.specs.declared.Context.{Context}
+use Rattle.nas_5gs.specs.Places.{recordAt}
+use Rattle.hex_perform.specs.declared.Answer.{Answer}
+use Rattle.hex_perform.specs.declared.Answer.the-variants.{Bad, Done, Shown, Refused, Used, Made, Opened, Content, EpsContent}
+use Rattle.hex_print.specs.Words.{ok, no, bad, word, decimalWord, octetsWord}
+
+-- how many octets were written
+abbrev pub wroteOf : Answer → ℕ
+wroteOf Bad = 0
+wroteOf Done = 0
+wroteOf Shown = 0
+wroteOf (Refused n) = 0
+wroteOf (Used c w) = w
+wroteOf (Made c o) = 0
+wroteOf (Opened c w t) = w
+wroteOf (Content c w t n) = w
+wroteOf (EpsContent c w n) = w
+
+-- COUNT WROTE
+unfoldable pub usedText : ℕ → ℕ → List ℕ
+usedText c w = word 4 c ++ word 2 w
+
+-- no 8 COUNT WROTE
+unfoldable pub contentText : ℕ → ℕ → List ℕ
+contentText c w = no ++ decimalWord 8 ++ usedText c w
+
+-- N B of a record
+unfoldable pub recordText : Record → List ℕ
+recordText r = word 4 (r .next) ++ word 8 (r .bits)
+
+-- II CC IK CK WW
+unfoldable pub coreText : Core → List ℕ
+coreText k =
+    textOf (k .integrity ∷ []) ++ word 1 (k .ciphering) ++ octetsWord (k .«integrity_key») ++ octetsWord (k .«ciphering_key») ++ word 1 (k .size)
+
+-- II CC IK CK WW N B N B N B N B
+unfoldable pub shownText : Context → List ℕ
+shownText x =
+    coreText (x .core) ++ recordText (recordAt x 0) ++ recordText (recordAt x 1) ++ recordText (recordAt x 2) ++ recordText (recordAt x 3)
+
+-- an answer, with the context for `show` and the octets that were written
+unfoldable pub answerText : Answer → Context → List ℕ → List ℕ
+answerText Bad x o = bad
+answerText Done x o = ok
+answerText Shown x o = shownText x
+answerText (Refused n) x o = no ++ decimalWord n
+answerText (Used c w) x o = ok ++ usedText c w ++ octetsWord o
+answerText (Made c k) x o = ok ++ usedText c 0 ++ word 1 k ++ octetsWord []
+answerText (Opened c w t) x o = ok ++ usedText c w ++ word 1 t ++ octetsWord o
+answerText (Content c w t n) x o = contentText c w ++ word 1 t ++ decimalWord n ++ octetsWord o
+answerText (EpsContent c w n) x o = contentText c w ++ decimalWord n ++ octetsWord o
+
+-- ` !tail` if an octet after those written is no longer a5
+unfoldable pub isKept : List ℕ → Bool
+isKept [] = true
+isKept (b ∷ bs) = eqb b 0xa5 && isKept bs
+
+unfoldable pub tailText : List ℕ → List ℕ
+tailText rest = cond (isKept rest) [] (32 ∷ 33 ∷ 116 ∷ 97 ∷ 105 ∷ 108 ∷ [])
+
+-- ` !context`
+unfoldable pub contextText : Bool → List ℕ
+contextText changed = cond changed (32 ∷ 33 ∷ 99 ∷ 111 ∷ 110 ∷ 116 ∷ 101 ∷ 120 ∷ 116 ∷ []) []
+
+-- the line, with its LF: out is what was lent, as the call left it
+unfoldable pub lineText : Answer → Context → List ℕ → Bool → List ℕ
+lineText a x out changed =
+    answerText a x (take (wroteOf a) out) ++ tailText (drop (wroteOf a) out) ++ contextText changed ++ (10 ∷ [])

@@ -1,0 +1,200 @@
+// The line of an answer. Each function puts its text behind what stands before a place, and answers the place after it.
+ghost use mathlib.Core.Path.{_≡_};
+ghost use mathlib.Core.List.{_++_};
+ghost use Prim.Native.Nat.{_+_, _*_, _≤_};
+ghost use lib.ListN.{length, take, drop};
+ghost use Rattle.hex_print.specs.Words.{Puts, decimalWord, ok, no};
+ghost use Rattle.hex_print.specs.Lines.{wroteOf, usedText, contentText, answerText, isKept, tailText, contextText, lineText};
+
+mod context;
+mod words;
+
+use hex_perform::Answer;
+use nas_5gs::Context;
+
+// No line is longer, where at most 65,536 octets are lent.
+pub const LONGEST: usize = 133_000;
+
+// How many octets a call wrote.
+fn wrote(answer: Answer) -> usize
+    ensures { λ r. ⌜ r ≡ wroteOf answer ⌝ }
+{
+    match answer {
+        Answer::Bad => 0,
+        Answer::Done => 0,
+        Answer::Shown => 0,
+        Answer::Refused(_) => 0,
+        Answer::Used { count: _, wrote } => wrote,
+        Answer::Made { count: _, octet: _ } => 0,
+        Answer::Opened {
+            count: _,
+            wrote,
+            header: _,
+        } => wrote,
+        Answer::Content {
+            count: _,
+            wrote,
+            header: _,
+            number: _,
+        } => wrote,
+        Answer::EpsContent {
+            count: _,
+            wrote,
+            number: _,
+        } => wrote,
+    }
+}
+
+fn after(lent: &[u8], n: usize) -> &[u8]
+    ensures { λ r. ⌜ now r ≡ drop n (now (lent .entry)) ⌝ }
+{
+    if lent.len() < n {
+        return &lent[lent.len()..];
+    }
+    &lent[n..]
+}
+
+fn front(lent: &[u8], n: usize) -> &[u8]
+    ensures { λ r. ⌜ (now r ≡ take n (now (lent .entry))) × (length (now r) ≤ length (now (lent .entry))) ⌝ }
+{
+    if lent.len() < n {
+        return lent;
+    }
+    &lent[..n]
+}
+
+// COUNT and WROTE.
+fn used(count: u32, wrote: usize, out: &mut [u8], at: usize) -> usize
+    requires { ⌜ at + 64 ≤ length (now out) ⌝ }
+    ensures { λ r. ⌜ Puts (now (out .entry)) at (usedText count wrote) (now (out .exit)) r × (r ≤ at + 34) ⌝ }
+{
+    let next = words::word(count as u64, 4, out, at);
+    words::word(wrote as u64, 2, out, next)
+}
+
+fn success(count: u32, wrote: usize, out: &mut [u8], at: usize) -> usize
+    requires { ⌜ at + 128 ≤ length (now out) ⌝ }
+    ensures { λ r. ⌜ Puts (now (out .entry)) at (ok ++ usedText count wrote) (now (out .exit)) r × (r ≤ at + 36) ⌝ }
+{
+    let next = words::text(b"ok", out, at);
+    used(count, wrote, out, next)
+}
+
+fn refusal(number: u8, out: &mut [u8], at: usize) -> usize
+    requires { ⌜ at + 64 ≤ length (now out) ⌝ }
+    ensures { λ r. ⌜ Puts (now (out .entry)) at (no ++ decimalWord number) (now (out .exit)) r × (r ≤ at + 6) ⌝ }
+{
+    let next = words::text(b"no", out, at);
+    words::decimal(number, out, next)
+}
+
+fn content(count: u32, wrote: usize, out: &mut [u8], at: usize) -> usize
+    requires { ⌜ at + 128 ≤ length (now out) ⌝ }
+    ensures { λ r. ⌜ Puts (now (out .entry)) at (contentText count wrote) (now (out .exit)) r × (r ≤ at + 40) ⌝ }
+{
+    let next = refusal(8, out, at);
+    used(count, wrote, out, next)
+}
+
+// An answer with the octets that were written, or the context for `show`.
+fn answer_text(answer: Answer, context: Context, written: &[u8], out: &mut [u8], at: usize) -> usize
+    requires { ⌜ at + 1024 + length (now written) * 2 ≤ length (now out) ⌝ }
+    ensures { λ r. ⌜ Puts (now (out .entry)) at (answerText answer context (now (written .entry))) (now (out .exit)) r × (r ≤ at + 250 + length (now (written .entry)) * 2) ⌝ }
+{
+    match answer {
+        Answer::Bad => words::text(b"bad", out, at),
+        Answer::Done => words::text(b"ok", out, at),
+        Answer::Shown => context::shown(context, out, at),
+        Answer::Refused(number) => refusal(number, out, at),
+        Answer::Used { count, wrote } => {
+            let next = success(count, wrote, out, at);
+            words::octets(written, out, next)
+        }
+        Answer::Made { count, octet } => {
+            let next = success(count, 0, out, at);
+            let made = words::word(octet as u64, 1, out, next);
+            words::octets(&[], out, made)
+        }
+        Answer::Opened {
+            count,
+            wrote,
+            header,
+        } => {
+            let next = success(count, wrote, out, at);
+            let typed = words::word(header as u64, 1, out, next);
+            words::octets(written, out, typed)
+        }
+        Answer::Content {
+            count,
+            wrote,
+            header,
+            number,
+        } => {
+            let next = content(count, wrote, out, at);
+            let typed = words::word(header as u64, 1, out, next);
+            let carried = words::decimal(number, out, typed);
+            words::octets(written, out, carried)
+        }
+        Answer::EpsContent {
+            count,
+            wrote,
+            number,
+        } => {
+            let next = content(count, wrote, out, at);
+            let carried = words::decimal(number, out, next);
+            words::octets(written, out, carried)
+        }
+    }
+}
+
+fn is_kept(rest: &[u8]) -> bool
+    ensures { λ r. ⌜ r ≡ isKept (now (rest .entry)) ⌝ }
+{
+    let mut i = 0;
+    while i < rest.len() {
+        if rest[i] != hex_perform::FILL {
+            return false;
+        }
+        i += 1;
+    }
+    true
+}
+
+fn tail(rest: &[u8], out: &mut [u8], at: usize) -> usize
+    requires { ⌜ at + 6 ≤ length (now out) ⌝ }
+    ensures { λ r. ⌜ Puts (now (out .entry)) at (tailText (now (rest .entry))) (now (out .exit)) r × (r ≤ at + 6) ⌝ }
+{
+    if is_kept(rest) {
+        return at;
+    }
+    words::text(b" !tail", out, at)
+}
+
+fn context_mark(is_changed: bool, out: &mut [u8], at: usize) -> usize
+    requires { ⌜ at + 9 ≤ length (now out) ⌝ }
+    ensures { λ r. ⌜ Puts (now (out .entry)) at (contextText «is_changed») (now (out .exit)) r × (r ≤ at + 9) ⌝ }
+{
+    if is_changed {
+        return words::text(b" !context", out, at);
+    }
+    at
+}
+
+// The line of an answer. `lent` is the output that was lent to the call, `is_changed` says that its refusal changed the context.
+pub fn put_line(
+    answer: Answer,
+    context: Context,
+    lent: &[u8],
+    is_changed: bool,
+    out: &mut [u8],
+    at: usize,
+) -> usize
+    requires { ⌜ (length (now lent) ≤ 65536) × (at + 133000 ≤ length (now out)) ⌝ }
+    ensures { λ r. ⌜ Puts (now (out .entry)) at (lineText answer context (now (lent .entry)) «is_changed») (now (out .exit)) r × (r ≤ at + 133000) ⌝ }
+{
+    let n = wrote(answer);
+    let next = answer_text(answer, context, front(lent, n), out, at);
+    let tailed = tail(after(lent, n), out, next);
+    let marked = context_mark(is_changed, out, tailed);
+    words::text(b"\n", out, marked)
+}

@@ -1,0 +1,17 @@
+use native.Mathlib.Omega.{arith}
+use lib.ListN.{length-take}
+use borrow.Author.Needs.{needs}
+use Rattle.nas_hex.proofs.printed.Statement.{statement}
+use Rattle.nas_hex.proofs.printed.Tie as tie
+
+slice-aggregate-put-line : tie.Need-slice-aggregate-put-line
+slice-aggregate-put-line c = simp length-take (omega arith)
+
+put-line-requires : tie.Need-put-line-requires
+put-line-requires c κs = (simp length-take (omega arith), search needs)
+
+pub printed-spec : {M : Type 1} → statement M
+printed-spec =
+    tie.close
+    (tie.spec
+    (λ c κs. search needs) slice-aggregate-put-line put-line-requires (λ c. search needs))

@@ -252,7 +252,7 @@ def look(message):
 
 
 def together(header, kind):
-    refuse_if(10, header == 3 and kind != 0x5D or header == 4 and kind != 0x5E)
+    refuse_if(10, (header == 3) != (kind == 0x5D) or (header == 4) != (kind == 0x5E))
 
 
 def right_way(kind, direction):

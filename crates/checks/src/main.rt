@@ -1,4 +1,4 @@
-// Runs document 01's list "Run and compared" and prints what each call answers: 0 for a success, else the refusal's number.
+// Runs document 01's list "Run and compared", and the pairing of header types and messages, and prints what each call answers: 0 for a success, else the refusal's number.
 use nas_5gs::ChangeAnswer;
 use nas_5gs::ChangeDone;
 use nas_5gs::Connection;
@@ -44,6 +44,25 @@ fn open_number(done: OpenDone) -> u8 {
             header_type: _,
             number: _,
         } => 8,
+    }
+}
+
+// What refusal 8 of an open carries; 0 for another answer.
+fn open_carried(done: OpenDone) -> u8 {
+    let answer = done.answer;
+    match answer {
+        OpenAnswer::Refused(_) => 0,
+        OpenAnswer::Accepted {
+            count: _,
+            wrote: _,
+            header_type: _,
+        } => 0,
+        OpenAnswer::Content {
+            count: _,
+            wrote: _,
+            header_type: _,
+            number,
+        } => number,
     }
 }
 
@@ -247,10 +266,52 @@ fn last_counts() {
     tell(b"then a seal: ", wide(sealed.number));
 }
 
+// A 5GMM message of three octets under a header type: what its seal answers, what an opaque seal of it opens as, and what 8 carries.
+fn pairing(header_type: u8, message_type: u8, direction: Direction) {
+    let inner = [0x7eu8, 0, message_type];
+    let mut message = [0u8; 10];
+    let looked = fresh().seal(
+        header_type,
+        direction,
+        Connection::ThreeGpp,
+        &inner,
+        &mut message,
+    );
+    tell(b"  seal: ", wide(use_number(looked)));
+    let sealed = fresh().seal_opaque(
+        header_type,
+        direction,
+        Connection::ThreeGpp,
+        &inner,
+        &mut message,
+    );
+    let mut out = [0u8; 3];
+    let opened = fresh().open(direction, Connection::ThreeGpp, &message, &mut out);
+    tell(b"  opaque seal: ", wide(use_number(sealed)));
+    tell(b"  open: ", wide(open_number(opened)));
+    tell(b"  carrying: ", wide(open_carried(opened)));
+}
+
+// SECURITY MODE COMMAND (5D) and COMPLETE (5E) under a header type in both directions.
+fn pairings(header_type: u8) {
+    tell(b"5D uplink under header type ", wide(header_type));
+    pairing(header_type, 0x5d, Direction::Uplink);
+    tell(b"5D downlink under header type ", wide(header_type));
+    pairing(header_type, 0x5d, Direction::Downlink);
+    tell(b"5E uplink under header type ", wide(header_type));
+    pairing(header_type, 0x5e, Direction::Uplink);
+    tell(b"5E downlink under header type ", wide(header_type));
+    pairing(header_type, 0x5e, Direction::Downlink);
+}
+
 fn main() {
     sizes();
     seven_and_eight();
     eps_of_six();
     fifth_octets();
     last_counts();
+    pairings(1);
+    pairings(2);
+    pairings(3);
+    pairings(4);
 }

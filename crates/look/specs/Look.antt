@@ -42,9 +42,13 @@ isOf t m = isMobility m && eqb (getD m 2 0) t
 unfoldable pub notKnown : List ℕ → Bool
 notKnown m = isUnknown (wayIn m)
 
--- 10: header type 3 carries only type 5D (security mode command), header type 4 only 5E (security mode complete)
+-- one of two holds without the other
+unfoldable pub alone : Bool → Bool → Bool
+alone a b = cond a (not b) b
+
+-- 10: header type 3 with 5D (security mode command) and 4 with 5E (security mode complete), each only with the other (Table 9.3.1)
 unfoldable pub notTogether : ℕ → List ℕ → Bool
-notTogether t m = eqb t 3 && not (isOf 0x5D m) || eqb t 4 && not (isOf 0x5E m)
+notTogether t m = alone (eqb t 3) (isOf 0x5D m) || alone (eqb t 4) (isOf 0x5E m)
 
 -- 11: wrong direction
 unfoldable pub wrongWay : ℕ → List ℕ → Bool

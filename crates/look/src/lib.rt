@@ -1,7 +1,7 @@
 // The look at the inner message: what document 01 takes for a known 5GS message, its header type and its direction.
 ghost use mathlib.Core.Path.{_≡_};
 ghost use Rattle.look.specs.Types.{wayOf};
-ghost use Rattle.look.specs.Look.{isMobility, isSession, isOf, wayIn, notKnown, notTogether, wrongWay, lookOf};
+ghost use Rattle.look.specs.Look.{isMobility, isSession, isOf, wayIn, notKnown, alone, notTogether, wrongWay, lookOf};
 
 // The direction that a message requires.
 pub enum Way {
@@ -85,17 +85,24 @@ pub fn not_known(octets: &[u8]) -> bool
     }
 }
 
+// Whether one of two holds without the other.
+fn is_alone(header: bool, message: bool) -> bool
+    ensures { λ r. ⌜ r ≡ alone header message ⌝ }
+{
+    if header {
+        return !message;
+    }
+    message
+}
+
 // Refusal 10.
 pub fn not_together(header_type: u8, octets: &[u8]) -> bool
     ensures { λ r. ⌜ r ≡ notTogether «header_type» (now (octets .entry)) ⌝ }
 {
-    if header_type == 3 {
-        return !is_of(0x5d, octets);
+    if is_alone(header_type == 3, is_of(0x5d, octets)) {
+        return true;
     }
-    if header_type == 4 {
-        return !is_of(0x5e, octets);
-    }
-    false
+    is_alone(header_type == 4, is_of(0x5e, octets))
 }
 
 // Refusal 11.

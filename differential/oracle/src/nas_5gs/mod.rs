@@ -170,7 +170,7 @@ pub mod messages {
         };
         match (sht as u8, kind) {
             (3, 0x5d) | (4, 0x5e) => Ok(()),
-            (3 | 4, _) => Err(NasError::EncodingError("pairing".into())),
+            (3 | 4, _) | (_, 0x5d | 0x5e) => Err(NasError::EncodingError("pairing".into())),
             _ => Ok(()),
         }
     }

@@ -76,7 +76,7 @@ def main():
     rust = "--rust" in sys.argv
     files = [open(f, "rb") for f in sys.argv[1:4]]
     counted, shown, compared, skipped, wrong = collections.Counter(), {}, 0, 0, 0
-    out_of_step = set()
+    out_of_step, codes = set(), {}
     for number, (line, ours, other) in enumerate(zip(*files), 1):
         line, ours, other = (x.rstrip(b"\n").decode("latin-1") for x in (line, ours, other))
         slot, call = slot_of(line), line.split(" ")[0]
@@ -86,6 +86,13 @@ def main():
             elif ours != "bad" or other != "bad":
                 skipped += 1
                 continue
+        leaves_null = call == "reselect" and ours == "ok" and codes.get(slot) == "00" and line.split(" ")[2] != "00"
+        if call in ("new", "restore", "reselect", "raw") and ours == "ok":
+            codes[slot] = line.split(" ")[2]
+        if rust and leaves_null and other == "ok":
+            counted["listed: late COUNTs closed when null integrity is left"] += 1
+            out_of_step.add(slot)
+            continue
         if ours == other or rust and same_shown(ours, other):
             compared += 1
             counted[(call if ours != "bad" else "(a line without the form)") + ": " + " ".join(ours.split(" ")[: 2 if ours[:2] == "no" else 1])[:6]] += 1

@@ -133,6 +133,8 @@ class Context:
     def reselect(self, integrity, ciphering, integrity_key, ciphering_key):
         self.fault()
         refuse_if(13, not (built(integrity) and built(ciphering)))
+        if self.integrity == 0 and integrity != 0:
+            self.bits = [mask(self.size)] * 4
         self.integrity, self.ciphering = integrity, ciphering
         self.integrity_key, self.ciphering_key = integrity_key, ciphering_key
 

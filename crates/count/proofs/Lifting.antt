@@ -9,8 +9,8 @@ use lib.ListN.{length, getD, length-set, length-map}
 use lib.Seq.{getD-set-same, getD-set-other}
 use borrow.Author.Tests.{eqb-true, eqb-false, ne-eqb}
 use Rattle.count.specs.declared.Record.{Record}
-use Rattle.count.specs.Rule.{resizeOf}
-use Rattle.count.specs.Run.{Way, Act, stay, uses, resize, useBy, act, used, Valid, after, Fair, history, NoneTwice}
+use Rattle.count.specs.Rule.{resizeOf, closeOf}
+use Rattle.count.specs.Run.{Way, Act, stay, uses, resize, close, useBy, act, used, Valid, after, Fair, history, NoneTwice}
 use Rattle.count.specs.Machine.{stateAt, recordsAfter, seen, Machine, view, givesAll, actsOn, usedAt, Acting, Sound, Others, Lift}
 use Rattle.count.proofs.Openings.{facts}
 
@@ -35,11 +35,13 @@ module _ (p q size : ℕ) (l : List Record) where
   state-after stay h = refl
   state-after (uses w c) h = stored w c h (eqb p q) refl
   state-after (resize new) h = λ i. record { size = new; at = map-at (resizeOf size new) l p h i }
+  state-after close h = λ i. record { size = size; at = map-at (closeOf size) l p h i }
 
   pub length-after : (a : Act) → length (recordsAfter q a size l) ≡ length l
   length-after stay = refl
   length-after (uses w c) = length-set l q (useBy w size (getD l q nothing) c)
   length-after (resize new) = length-map l (resizeOf size new)
+  length-after close = length-map l (closeOf size)
 
   -- what is valid for the record worked on is, as seen, valid for each
   only-there : (w : Way) (c : ℕ) → Valid (uses w c) (stateAt q size l) → (b : Bool) → eqb p q ≡ b → Valid (cond b (uses w c) stay) (stateAt p size l)
@@ -50,6 +52,7 @@ module _ (p q size : ℕ) (l : List Record) where
   seen-valid stay v = tt
   seen-valid (uses w c) v = only-there w c v (eqb p q) refl
   seen-valid (resize new) v = tt
+  seen-valid close v = absurd v
 
 nothing-used : (b : Bool) → [] ≡ cond {A = List ℕ} b [] []
 nothing-used true = refl
@@ -63,11 +66,13 @@ used-seen : (p q : ℕ) (a : Act) → used (seen p q a) ≡ cond (eqb p q) (used
 used-seen p q stay = nothing-used (eqb p q)
 used-seen p q (uses w c) = used-there w c (eqb p q)
 used-seen p q (resize new) = nothing-used (eqb p q)
+used-seen p q close = nothing-used (eqb p q)
 
-other-stays : (p q : ℕ) (a : Act) → (p ≡ q → ⊥) → ((new : ℕ) → a ≡ resize new → ⊥) → seen p q a ≡ stay
-other-stays p q stay ne other = refl
-other-stays p q (uses w c) ne other = simp (ne-eqb p q ne)
-other-stays p q (resize new) ne other = absurd (other new refl)
+other-stays : (p q : ℕ) (a : Act) → (p ≡ q → ⊥) → ((new : ℕ) → a ≡ resize new → ⊥) → (a ≡ close → ⊥) → seen p q a ≡ stay
+other-stays p q stay ne other open-still = refl
+other-stays p q (uses w c) ne other open-still = simp (ne-eqb p q ne)
+other-stays p q (resize new) ne other open-still = absurd (other new refl)
+other-stays p q close ne other open-still = absurd (open-still refl)
 
 pub view-gives : {X C : Type 0} (T : Machine X C) (Good : X → Type 0) → Acting T Good → (k : C) (x : X) → Good x → (p : ℕ) → p < length (T .records x)
     → view T p (T .gives k x) ≡ act (seen p (T .place k x) (T .does k x)) (view T p x)
@@ -77,9 +82,9 @@ view-gives T Good acting k x good p there =
     ∙ state-after p (T .place k x) (T .size x) (T .records x) (T .does k x) there
 
 pub others : Others
-others X C T Good acting k x good p there ne other =
+others X C T Good acting k x good p there ne other open-still =
     view-gives T Good acting k x good p there
-    ∙ ap (λ (a : Act). act a (view T p x)) (other-stays p (T .place k x) (T .does k x) ne other)
+    ∙ ap (λ (a : Act). act a (view T p x)) (other-stays p (T .place k x) (T .does k x) ne other open-still)
 
 module _ {X C : Type 0} (T : Machine X C) (Good : X → Type 0) (sound : Sound T Good) (x : X) (good : Good x) (p : ℕ) (there : p < length (T .records x)) where
   pub still-good : (ks : List C) → Good (givesAll T x ks)

@@ -1,10 +1,10 @@
 -- The table holds, by computation.
 use mathlib.Core.Path.{refl}
-use Rattle.count.specs.Rule.{bit, distance, forwardOf, openAt, lateOf, formerHighest, useForward, useLate, resizeOf}
+use Rattle.count.specs.Rule.{bit, distance, forwardOf, openAt, lateOf, formerHighest, useForward, useRound, useLate, resizeOf, closeOf}
 use Rattle.count.specs.Table.{Table, openTo}
 
 pub table : Table
-unfolding bit distance forwardOf openAt lateOf formerHighest useForward useLate resizeOf openTo
+unfolding bit distance forwardOf openAt lateOf formerHighest useForward useRound useLate resizeOf closeOf openTo
 table =
     record {
       P1 = refl;
@@ -19,4 +19,6 @@ table =
       P10 = refl;
       P11 = refl;
       P12 = refl;
+      P13 = (refl, refl);
+      P14 = refl;
     }

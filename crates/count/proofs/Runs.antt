@@ -4,7 +4,7 @@ use mathlib.Core.Logic.{_⊎_, inl, inr, _↔_}
 use mathlib.Core.List.{List, [], _∷_, _++_}
 use native.Mathlib.Omega.{arith}
 use Rattle.count.specs.Rule.{useForward, useLate, resizeOf}
-use Rattle.count.specs.Run.{State, Act, stay, uses, forward, late, round, resize, act, used, Open, Shut, Valid, Passes, after, Fair, history, In, NoneTwice, PassedLast, Inside, Since, now, still, StillOpen}
+use Rattle.count.specs.Run.{State, Act, stay, uses, forward, late, round, resize, close, act, used, Open, Shut, Valid, Passes, after, Fair, history, In, NoneTwice, PassedLast, Inside, Since, now, still, StillOpen}
 use Rattle.count.proofs.Law.{law, to-clear}
 
 module _ (c : ℕ) where
@@ -30,6 +30,7 @@ grows (uses forward x) s v = omega arith
 grows (uses late x) s v = omega arith
 grows (resize x) s v = omega arith
 grows (uses round x) s v = absurd v
+grows close s v = absurd v
 
 use-under : (a : Act) (s : State) (c : ℕ) → Valid a s → In c (used a) → c < act a s .at .next
 unfolding useForward useLate
@@ -70,6 +71,7 @@ module _ (s : State) where
     none-twice (uses late x ∷ run) f = (open-unused run (f .1) x (f .0), none-twice run (f .1))
     none-twice (resize x ∷ run) f = none-twice run (f .1)
     none-twice (uses round x ∷ run) f = absurd (f .0)
+    none-twice (close ∷ run) f = absurd (f .0)
 
     open-since : (run : List Act) → Fair s run → (c : ℕ) → Open (after s run) c → Since (Inside s c) (PassedLast s c) run
     open-since [] f c o = absurd (shut c o)

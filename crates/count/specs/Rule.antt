@@ -87,3 +87,7 @@ unfoldable pub resizeOf : ℕ → ℕ → Record → Record
 resizeOf old new r =
     let both = min old new in
     record { next = r .next; bits = r .bits % 2 ^ both + (2 ^ new - 2 ^ both) }
+
+-- Request 4: "reselecting away from null closes every late COUNT": the bits that the size covers are set, the rest clear; next stays
+unfoldable pub closeOf : ℕ → Record → Record
+closeOf size r = record { next = r .next; bits = 2 ^ size - 1 }

@@ -1,4 +1,4 @@
--- Document 01, "Numbers on both sides": P1 to P12.
+-- Document 01, "Numbers on both sides": P1 to P12; request 4: P13 and P14.
 use Prim.Native.Nat.{ℕ, zero, suc, _-_}
 use mathlib.Core.Path.{_≡_}
 use mathlib.Core.Bool.{false, cond}
@@ -6,7 +6,7 @@ use mathlib.Core.List.{List, [], _∷_}
 use Rattle.count.specs.declared.Record.{Record}
 use Rattle.count.specs.declared.Candidate.the-variants.{Nothing, At}
 use Rattle.count.specs.Rule.{forwardOf, lateOf, openAt}
-use Rattle.count.specs.Run.{State, Act, uses, forward, late, resize, act}
+use Rattle.count.specs.Run.{State, Act, stay, uses, forward, late, round, resize, close, act}
 
 -- the COUNTs open late, in rising order: those at up to d below the highest
 unfoldable pub openTo : ℕ → State → List ℕ
@@ -48,3 +48,7 @@ pub record Table : Type 0 where
   pub P10 : openLate (fresh then resize 64 then uses forward 0 then uses forward 64) ≡ row 63 1
   pub P11 : openLate (fresh then resize 64 then uses forward 0 then uses forward 65) ≡ row 64 1
   pub P12 : openLate (fresh then uses forward 20 then resize 64) ≡ []
+  -- COUNT 5 used, reselected to null, COUNT 6 used there, reselected to 2
+  pub P13 : let s = fresh then resize 8 then uses forward 5 then stay then uses round 6 then close in (openLate s ≡ []) × (s .at .next ≡ 7)
+  -- COUNT 5 used, reselected from 2 to 2 with other keys
+  pub P14 : openLate (fresh then resize 8 then uses forward 5 then stay) ≡ row 5 0

@@ -3,7 +3,7 @@
 ghost use mathlib.Core.Path.{_≡_};
 ghost use mathlib.Core.List.{[]};
 ghost use Rattle.nas_5gs.specs.Leaves.{leaves, changeValues, useValues, openValues, epsOpenValues, octetValues};
-ghost use Rattle.promises.specs.Calls.{setWindow, seal5gs, sealOpaque, open5gs, sealEps, openEps, makeN1ToS1, verifyN1ToS1, makeS1ToN1, verifyS1ToN1, reselect, create, restore, nextCount, window, integrity, ciphering, outcome, gives, givesAny, makes, reads};
+ghost use Rattle.promises.specs.Calls.{setWindow, seal5gs, sealOpaque, open5gs, sealEps, openEps, makeN1ToS1, verifyN1ToS1, makeS1ToN1, verifyS1ToN1, reselect, create, restore, nextCount, window, integrity, ciphering, outcome, gives, makes, reads};
 use nas_5gs::ChangeDone;
 use nas_5gs::Connection;
 use nas_5gs::Context;
@@ -43,7 +43,7 @@ pub fn reselect(
     integrity_key: [u8; 16],
     ciphering_key: [u8; 16],
 ) -> ChangeDone
-    ensures { λ r. ⌜ outcome changeValues (leaves (r .answer) (r .context) []) ≡ givesAny (reselect integrity ciphering «integrity_key» «ciphering_key») context ⌝ }
+    ensures { λ r. ⌜ outcome changeValues (leaves (r .answer) (r .context) []) ≡ gives (reselect integrity ciphering «integrity_key» «ciphering_key») context ⌝ }
 {
     context.reselect(integrity, ciphering, integrity_key, ciphering_key)
 }

@@ -1,10 +1,12 @@
 -- Creation, restore, reselection and the window size: calls that use no COUNT (document 01, "Words" and "The COUNT rule").
 use Prim.Native.Nat.{ℕ}
+use mathlib.Core.Bool.{Bool, cond, not, _&&_}
 use mathlib.Core.List.{List, [], _∷_}
 use lib.ListN.{getD, replicate}
 use lib.Dec.{ltb}
-use Rattle.count.specs.Rule.{resizeOf}
+use Rattle.count.specs.Rule.{resizeOf, closeOf}
 use Rattle.refusals.specs.Order.{_when_, first, refusedOr}
+use Rattle.nas_core.specs.Keyed.{awayFromNull}
 use Rattle.nas_core.specs.Refusals.{unbuilt}
 use Rattle.nas_core.specs.declared.Core.{Core}
 use Rattle.nas_5gs.specs.declared.Context.{Context}
@@ -40,12 +42,20 @@ restoreOf i c ik ck next =
     (λ n. leaves (Refused n) refusedContext [])
     (leaves Done (contextWith i c ik ck next) [])
 
--- reselection: 13; next COUNTs, size and bits stay
+-- every late COUNT of every record closed
+unfoldable pub closed : Context → Context
+closed x = record { core = x .core; records = four (λ p. closeOf (x .core .size) (recordAt x p)) }
+
+-- "reselecting away from null closes every late COUNT in all four records"
+unfoldable pub keptFor : Context → ℕ → Context
+keptFor x i = cond (awayFromNull (x .core .integrity) i) (closed x) x
+
+-- reselection: 13; next COUNTs and size stay, and but for the above the bits
 unfoldable pub reselectOf : Context → ℕ → ℕ → List ℕ → List ℕ → Leaves ChangeAnswer
 reselectOf x i c ik ck =
     refusedOr (first (faultOf x ∷ 13 when unbuilt i c ∷ []))
     (λ n. leaves (Refused n) x [])
-    (leaves Done (record { core = coreWith i c ik ck (x .core .size); records = x .records }) [])
+    (leaves Done (record { core = coreWith i c ik ck (x .core .size); records = keptFor x i .records }) [])
 
 -- every record under a new size
 unfoldable pub resized : Context → ℕ → Context

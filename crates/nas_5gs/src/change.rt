@@ -4,7 +4,7 @@ ghost use mathlib.Core.List.{[]};
 ghost use Prim.Native.Nat.{_≤_};
 ghost use Rattle.nas_5gs.specs.Places.{placeOf, nextAt};
 ghost use Rattle.nas_5gs.specs.Leaves.{leaves};
-ghost use Rattle.nas_5gs.specs.Changes.{contextWith, refusedContext, newOf, restoreOf, reselectOf, resized, windowOf};
+ghost use Rattle.nas_5gs.specs.Changes.{contextWith, refusedContext, newOf, restoreOf, closed, keptFor, reselectOf, resized, windowOf};
 use crate::ChangeAnswer;
 use crate::ChangeDone;
 use crate::Connection;
@@ -109,6 +109,38 @@ impl Context {
         }
     }
 
+    // Every late COUNT closed: a new size after none.
+    fn closed(self) -> Context
+        requires { ⌜ self .core .size ≤ 64 ⌝ }
+        ensures { λ r. ⌜ r ≡ closed self ⌝ }
+    {
+        let core = self.core;
+        let size = core.size;
+        let a = self.records[0];
+        let b = self.records[1];
+        let c = self.records[2];
+        let d = self.records[3];
+        let records = [
+            a.resize(0, size),
+            b.resize(0, size),
+            c.resize(0, size),
+            d.resize(0, size),
+        ];
+        Context { core, records }
+    }
+
+    // The context as a reselection to this integrity code takes it.
+    fn kept_for(self, integrity: u8) -> Context
+        requires { ⌜ self .core .size ≤ 64 ⌝ }
+        ensures { λ r. ⌜ r ≡ keptFor self integrity ⌝ }
+    {
+        let from = self.core.integrity;
+        if nas_core::away_from_null(from, integrity) {
+            return self.closed();
+        }
+        self
+    }
+
     pub fn reselect(
         self,
         integrity: u8,
@@ -131,7 +163,7 @@ impl Context {
                 context: self,
             };
         }
-        let mut context = self;
+        let mut context = self.kept_for(integrity);
         let size = self.core.size;
         let core = Core {
             integrity,

@@ -1,7 +1,7 @@
 -- What a context does with its keys: the code of octets, ciphering them, and the octets that both make behind a header
 -- (TS 24.501 4.4.3.3, 4.4.4, 4.4.5; TS 33.501 6.4.3).
 use Prim.Native.Nat.{ℕ, _%_}
-use mathlib.Core.Bool.{Bool, cond}
+use mathlib.Core.Bool.{Bool, cond, not, _&&_}
 use mathlib.Core.List.{List, _∷_, _++_}
 use lib.Dec.{eqb}
 use Rattle.algorithms.specs.Codes.{codeOf, cipherOf}
@@ -10,6 +10,10 @@ use Rattle.nas_core.specs.declared.Core.{Core}
 -- null integrity: COUNTs go round, every received code passes
 unfoldable pub wraps : Core → Bool
 wraps x = eqb (x .integrity) 0
+
+-- from integrity 0 to another code
+unfoldable pub awayFromNull : ℕ → ℕ → Bool
+awayFromNull from to = eqb from 0 && not (eqb to 0)
 
 -- the code of octets under COUNT c, bearer b and direction d
 unfoldable pub codeBy : Core → ℕ → ℕ → ℕ → List ℕ → List ℕ

@@ -7,7 +7,7 @@ ghost use lib.ListN.{length, drop, getD};
 ghost use Rattle.count.specs.Rule.{exhausted, forwardOf, lateOf, tryForward};
 ghost use Rattle.refusals.specs.Order.{first};
 ghost use Rattle.nas_core.specs.Refusals.{coreFault, sendRefusals, handRefusals, unbuilt};
-ghost use Rattle.nas_core.specs.Keyed.{wraps, codeBy, payload, protected};
+ghost use Rattle.nas_core.specs.Keyed.{wraps, awayFromNull, codeBy, payload, protected};
 ghost use Rattle.nas_core.specs.Verify.{same, fits, verifyOf, advanced};
 use count::Candidate;
 use count::Opening;
@@ -33,6 +33,19 @@ pub fn is_unbuilt(integrity: u8, ciphering: u8) -> bool
         return !algorithms::built(ciphering);
     }
     true
+}
+
+// Whether a reselection leaves null integrity.
+pub fn away_from_null(from: u8, to: u8) -> bool
+    ensures { λ r. ⌜ r ≡ awayFromNull from to ⌝ }
+{
+    if from != 0 {
+        return false;
+    }
+    if to != 0 {
+        return true;
+    }
+    false
 }
 
 // Refusals 4, 5 and 6 of a call that sends, and 0 for none.

@@ -8,7 +8,7 @@ use native.Mathlib.Omega.{arith}
 use lib.Dec.{eqb}
 use Rattle.count.specs.declared.Opening.the-variants.{Forward}
 use Rattle.count.specs.Rule.{exhausted, opening, forwardOnly, useForward, useLate, resizeOf}
-use Rattle.count.specs.Run.{State, Act, stay, uses, resize, forward, late, round, act, Within, Valid, Passes, after, Fair, history, In, NoneTwice, PassedLast, Inside, Since, now, still, StillOpen}
+use Rattle.count.specs.Run.{State, Act, stay, uses, resize, close, forward, late, round, act, Within, Valid, Passes, after, Fair, history, In, NoneTwice, PassedLast, Inside, Since, now, still, StillOpen}
 use Rattle.count.specs.Facts.{Takes, Reach}
 use Rattle.count.specs.Machine.{Machine, seen, view, givesAll, actsOn, usedAt, Sound, Lifted}
 use Rattle.count.proofs.Candidates.{clash}
@@ -24,6 +24,7 @@ passes-iff (uses forward n) s c v = ((λ h. (h .0, omega arith)), λ h. (h .0, o
 passes-iff (uses late n) s c v = ((λ e. absurd e), λ h. absurd (omega arith))
 passes-iff (uses round n) s c v = absurd v
 passes-iff (resize n) s c v = ((λ e. absurd e), λ h. absurd (omega arith))
+passes-iff close s c v = absurd v
 
 -- next stays a COUNT, or exhausted
 act-under : (a : Act) (s : State) → Valid a s → s .at .next ≤ exhausted → act a s .at .next ≤ exhausted
@@ -33,6 +34,7 @@ act-under (uses forward n) s v h = omega arith
 act-under (uses late n) s v h = h
 act-under (uses round n) s v h = absurd v
 act-under (resize n) s v h = h
+act-under close s v h = absurd v
 
 pub next-under : (s : State) → s .at .next ≤ exhausted → (run : List Act) → Fair s run → after s run .at .next ≤ exhausted
 next-under s h [] f = h

@@ -9,8 +9,8 @@ use Rattle.count.specs.declared.Candidate.{Candidate}
 use Rattle.count.specs.declared.Opening.{Opening}
 use Rattle.count.specs.declared.Opening.the-variants.{Late, Forward, None, Wrong}
 use Rattle.count.specs.declared.Record.{Record}
-use Rattle.count.specs.Rule.{exhausted, forwardOf, try, useForward, useRound, useLate, resizeOf}
-use Rattle.count.specs.Run.{State, Act, stay, uses, resize, forward, late, round, act, actOf}
+use Rattle.count.specs.Rule.{exhausted, forwardOf, try, useForward, useRound, useLate, resizeOf, closeOf}
+use Rattle.count.specs.Run.{State, Act, stay, uses, resize, close, forward, late, round, act, actOf}
 use Rattle.count.specs.Facts.{When}
 use Rattle.count.specs.Machine.{seen, view}
 use Rattle.count.proofs.Candidates.{forward-found}
@@ -40,19 +40,22 @@ seen-bounded p q (uses w c) h = go (eqb p q)
     go true = h
     go false = tt
 seen-bounded p q (resize n) h = h
+seen-bounded p q close h = tt
 
 next-under : (a : Act) (s : State) → Bounded a → s .at .next ≤ exhausted → act a s .at .next ≤ exhausted
-unfolding useForward useRound useLate resizeOf
+unfolding useForward useRound useLate resizeOf closeOf
 next-under stay s v h = h
 next-under (uses forward c) s v h = omega arith
 next-under (uses late c) s v h = h
 next-under (uses round c) s v h = omega arith
 next-under (resize n) s v h = h
+next-under close s v h = h
 
 size-under : (a : Act) (s : State) → Bounded a → s .size ≤ 64 → act a s .size ≤ 64
 size-under stay s v h = h
 size-under (uses w c) s v h = h
 size-under (resize n) s v h = v
+size-under close s v h = h
 
 pub limits : LimitsKept
 limits X C T Shape acting k x shape bounded within =

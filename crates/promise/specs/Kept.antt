@@ -19,7 +19,7 @@ pub record Keeping {X C : Type 0} {T : Machine X C} (W : Words T) (Good : X → 
   pub sound : Sound T Good
   pub answers : (k : C) (x : X) → Good x → W .answered k x ≡ used (T .does k x)
 
--- Where a run may begin: nothing of the record is open late. A fresh context is so, whatever its next COUNTs.
+-- Where a run may begin: nothing of the record is open late. A fresh context is so, whatever its next COUNTs, and one just reselected away from null.
 pub record Begins {X C : Type 0} (T : Machine X C) (Good : X → Type 0) (p : ℕ) (x : X) : Type 0 where
   pub good : Good x
   pub there : p < length (T .records x)

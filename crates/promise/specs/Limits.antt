@@ -2,7 +2,7 @@
 use Prim.Native.Nat.{ℕ, _≤_, _<_}
 use lib.ListN.{length}
 use Rattle.count.specs.Rule.{exhausted}
-use Rattle.count.specs.Run.{Act, stay, uses, resize, forward, late, round}
+use Rattle.count.specs.Run.{Act, stay, uses, resize, close, forward, late, round}
 use Rattle.count.specs.Machine.{Machine, view, Acting}
 
 -- a COUNT used forward is one, and a new size is at most 64
@@ -12,6 +12,7 @@ Bounded (uses forward c) = c < exhausted
 Bounded (uses late c) = Unit {0}
 Bounded (uses round c) = Unit {0}
 Bounded (resize n) = n ≤ 64
+Bounded close = Unit {0}
 
 pub record InLimits {X C : Type 0} (T : Machine X C) (x : X) : Type 0 where
   pub small : T .size x ≤ 64

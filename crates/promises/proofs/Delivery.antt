@@ -19,7 +19,7 @@ use Rattle.nas_5gs.specs.Eps.{notEps, sealEpsRefusals, sealEpsRefusal}
 use Rattle.promises.specs.Calls.{seal5gs, sealOpaque, open5gs, sealEps, openEps, gives, contextAfter}
 use Rattle.promises.specs.Words.{written, TakenAs}
 use Rattle.promises.specs.Delivery.{Delivery}
-use Rattle.promises.proofs.Soundness.{trans-keys, next-there}
+use Rattle.promises.proofs.Soundness.{next-there}
 use Rattle.promises.proofs.Demand1.{opened-passed}
 use Rattle.promises.proofs.Demand2.{writes, returns, seal-type, seal-passed, opaque-type, eps-content}
 use Rattle.promises.proofs.Demand3.{keeps}
@@ -40,10 +40,9 @@ within-limit l i n e q = ltb-false limit n (off 4 (ltb limit n) (omega arith) (s
 
 pub delivery : Delivery
 unfolding sealRefusal opaqueRefusal sealEpsRefusal
-delivery z x fresh same ks =
-    let d3 = keeps x fresh ks in
+delivery z x begins ks never same =
+    let d3 = keeps x begins ks never in
     let now = contextAfter gives x ks in
-    let keys = trans-keys (z .core) (x .core) (now .core) same (d3 .keys) in
     record {
       seal = λ t d k inner out room h fit due.
           let s = gives (seal5gs t d k inner out) z in
@@ -56,7 +55,7 @@ delivery z x fresh same ks =
           let o = d3 .opens d k (z .core) t (s .values .count) inner room same (r .0) (r .1) below some low fit in
           let taken : TakenAs (gives (open5gs d k (written s) room) now) (s .values .count) inner room =
           rw (w .1) (o .exactly .1 (rw (w .1) at due)) in
-          let u = returns z now keys .seal t d k inner out room h (taken .uses, taken .count) in (u .0, taken);
+          let u = returns z now same .seal t d k inner out room h (taken .uses, taken .count) in (u .0, taken);
       opaque = λ t d k inner out room h some fit due.
           let s = gives (sealOpaque t d k inner out) z in
           let w = writes z .opaque t d k inner out h in
@@ -75,5 +74,5 @@ delivery z x fresh same ks =
           let low = within-limit (sealEpsRefusals z inner (length out)) 2 (length inner) e refl in
           let o = d3 .opens-eps (z .core) (s .values .count) inner room same below some low fit in
           let taken : TakenAs (gives (openEps (written s) room) now) (s .values .count) inner room = rw (w .1) (o .exactly .1 (rw (w .1) at due)) in
-          let u = returns z now keys .eps inner out room h (taken .uses, taken .count) in (u .0, taken);
+          let u = returns z now same .eps inner out room h (taken .uses, taken .count) in (u .0, taken);
     }

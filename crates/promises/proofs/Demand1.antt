@@ -8,7 +8,7 @@ use native.Mathlib.Omega.{arith}
 use lib.ListN.{length, getD, drop, replicate, length-append, length-drop}
 use lib.Seq.{drop-append-seam}
 use lib.Dec.{eqb, ltb}
-use borrow.Author.Tests.{eqb-true, eqb-false, ne-eqb, ltb-false, lt-ltb, le-ltb}
+use borrow.Author.Tests.{eqb-true, eqb-false, ltb-false, lt-ltb, le-ltb}
 use Rattle.count.specs.declared.Opening.{Opening}
 use Rattle.count.specs.declared.Opening.the-variants.{Late, Forward, None, Wrong}
 use Rattle.count.specs.declared.Candidate.{Candidate}
@@ -33,17 +33,17 @@ use Rattle.nas_5gs.specs.declared.OpenAnswer.the-variants as open′
 use Rattle.nas_5gs.specs.declared.EpsOpenAnswer.the-variants as eps
 use Rattle.nas_5gs.specs.Places.{directionNo, bearerNo, placeOf, four, anyOver, recordAt, nextAt, faultOf, used, usedLate}
 use Rattle.nas_5gs.specs.Leaves.{leaves, over, useNext, received, Values, refusal, changeValues, useValues, openValues, epsOpenValues}
-use Rattle.nas_5gs.specs.Changes.{coreWith, refusedContext, newOf, restoreOf, reselectOf, windowOf}
+use Rattle.nas_5gs.specs.Changes.{refusedContext, newOf, restoreOf, reselectOf, windowOf}
 use Rattle.nas_5gs.specs.Envelope.{ciphers, envelope}
 use Rattle.nas_5gs.specs.Seal.{sealRefusals, sealRefusal, opaqueRefusals, opaqueRefusal}
 use Rattle.nas_5gs.specs.Open.{typeOf, openRefusals, openRefusal, handed, opened}
 use Rattle.nas_5gs.specs.Eps.{epsPlace, notEps, epsMessage, sealEpsRefusals, sealEpsRefusal, openEpsRefusals, openEpsRefusal, epsHanded, epsOpened}
 use Rattle.nas_5gs.specs.Containers.{containerPlace, containerBearer, containerDirection, s1Count, s1Value, s1ToN1, s1ToN1Refusals, s1ToN1Refusal}
-use Rattle.promises.specs.Calls.{create, restore, makes, Any, reselect, givesAny, lentAny, Call, setWindow, seal5gs, sealOpaque, open5gs, sealEps, openEps, makeN1ToS1, verifyN1ToS1, makeS1ToN1, verifyS1ToN1, call, Outcome, outcome, gives, lent, placeIn}
+use Rattle.promises.specs.Calls.{create, restore, makes, Call, setWindow, reselect, seal5gs, sealOpaque, open5gs, sealEps, openEps, makeN1ToS1, verifyN1ToS1, makeS1ToN1, verifyS1ToN1, Outcome, outcome, gives, lent, placeIn}
 use Rattle.promises.specs.Demand1.{numbersOf, Demand1, MayBeLate, Demand1Uses, HandsOver, Opened, plain5gs, Demand1Open, Built, Demand1Making, Demand1Changes}
 use Rattle.promises.proofs.Shapes.{refusalOf, found, plain, look, openedAs, epsFound, epsAs, octetFound, octetRefused, octetUsed}
 use Rattle.promises.proofs.Passing.{passes, alone, sends, gives-passed, gives-refused, uses-passed}
-use Rattle.promises.proofs.Numbers.{Among, there, or-right, refusal-listed, refusal-not-8, reselect-listed, look-listed, fault-first}
+use Rattle.promises.proofs.Numbers.{Among, there, or-right, refusal-listed, refusal-not-8, look-listed, fault-first}
 use Rattle.promises.proofs.Opening.{payload-length, eps-sealed}
 use Rattle.promises.proofs.Taking.{Answering, left, open-answering, eps-answering, open-left, eps-left, envelope-long}
 
@@ -113,21 +113,22 @@ s1-long x ncc ngksi =
     let n = code-length (x .core .integrity) (x .core .«integrity_key») s1Count containerBearer containerDirection (s1Value (x .core) ncc ngksi) in
     simp (length-append, n)
 
-told-passes : (k : Call) (x : Context) → refusalOf k x ≡ 0 → Told (numbersOf (call k)) x (lent k) (passes k x)
+told-passes : (k : Call) (x : Context) → refusalOf k x ≡ 0 → Told (numbersOf k) x (lent k) (passes k x)
 unfolding sealRefusal opaqueRefusal openRefusal sealEpsRefusal openEpsRefusal s1ToN1Refusal opened handed epsOpened epsHanded
 told-passes (setWindow n) x e = record { answers = inl refl; kept = λ a b. absurd (a refl); behind = refl; room = refl; within = omega arith }
+told-passes (reselect i c ik ck) x e = record { answers = inl refl; kept = λ a b. absurd (a refl); behind = refl; room = refl; within = omega arith }
 told-passes (seal5gs t d k inner out) x e =
     let p = placeOf d k in
     let h : 7 + length inner ≤ length out = fits-room (sealRefusals x t p (directionNo d) inner (length out)) 6 (length out) (7 + length inner) e refl in
-    told-sends (numbersOf (call (seal5gs t d k inner out))) x out p (λ c. envelope (x .core) t c (bearerNo k) (directionNo d) inner)
+    told-sends (numbersOf (seal5gs t d k inner out)) x out p (λ c. envelope (x .core) t c (bearerNo k) (directionNo d) inner)
     (omega (arith, envelope-long (x .core) t (nextAt x p) (bearerNo k) (directionNo d) inner))
 told-passes (sealOpaque t d k inner out) x e =
     let p = placeOf d k in
     let h : 7 + length inner ≤ length out = fits-room (opaqueRefusals x t p inner (length out)) 3 (length out) (7 + length inner) e refl in
-    told-sends (numbersOf (call (sealOpaque t d k inner out))) x out p (λ c. envelope (x .core) t c (bearerNo k) (directionNo d) inner)
+    told-sends (numbersOf (sealOpaque t d k inner out)) x out p (λ c. envelope (x .core) t c (bearerNo k) (directionNo d) inner)
     (omega (arith, envelope-long (x .core) t (nextAt x p) (bearerNo k) (directionNo d) inner))
 told-passes (open5gs d k m out) x e =
-    let s = numbersOf (call (open5gs d k m out)) in
+    let s = numbersOf (open5gs d k m out) in
     let b = bearerNo k in
     let f = directionNo d in
     let p = placeOf d k in
@@ -137,56 +138,36 @@ told-passes (open5gs d k m out) x e =
     (λ c. omega (arith, payload-length (x .core) c b f (drop 7 m) (ciphers (typeOf m)), length-drop 7 m))
 told-passes (sealEps inner out) x e =
     let h : 6 + length inner ≤ length out = fits-room (sealEpsRefusals x inner (length out)) 3 (length out) (6 + length inner) e refl in
-    told-sends (numbersOf (call (sealEps inner out))) x out epsPlace (λ c. epsMessage (x .core) c inner)
+    told-sends (numbersOf (sealEps inner out)) x out epsPlace (λ c. epsMessage (x .core) c inner)
     (omega (arith, eps-sealed (x .core) (nextAt x epsPlace) inner .long))
 told-passes (openEps m out) x e =
-    let s = numbersOf (call (openEps m out)) in
+    let s = numbersOf (openEps m out) in
     let h : length m - 6 ≤ length out = fits-room (openEpsRefusals x m (length out)) 4 (length out) (length m - 6) e refl in
     told-received s x out epsOpenValues eps.Refused (epsAs x m out) (λ c. drop 6 m) (eps-answering x m out) epsPlace (epsFound x m out)
     (λ n. refl) (there 6 s refl) (there 7 s refl) (there 8 s refl) (λ c. omega (arith, length-drop 6 m))
 told-passes makeN1ToS1 x e = record { answers = inl refl; kept = λ a b. absurd (a refl); behind = refl; room = refl; within = omega arith }
 told-passes (verifyN1ToS1 n) x e =
-    let s = numbersOf (call (verifyN1ToS1 n)) in told-octet s x n (octetFound x n) (there 6 s refl) (octet-not-wrong x n)
+    let s = numbersOf (verifyN1ToS1 n) in told-octet s x n (octetFound x n) (there 6 s refl) (octet-not-wrong x n)
 told-passes (makeS1ToN1 ncc ngksi out) x e =
     let h : 8 ≤ length out = fits-room (s1ToN1Refusals x ncc ngksi (length out)) 2 (length out) 8 e refl in
-    told-sends (numbersOf (call (makeS1ToN1 ncc ngksi out))) x out containerPlace (λ c. s1ToN1 (x .core) ncc ngksi) (omega (arith, s1-long x ncc ngksi))
-told-passes (verifyS1ToN1 v) x e = told-sends (numbersOf (call (verifyS1ToN1 v))) x [] containerPlace (λ c. []) (omega arith)
+    told-sends (numbersOf (makeS1ToN1 ncc ngksi out)) x out containerPlace (λ c. s1ToN1 (x .core) ncc ngksi) (omega (arith, s1-long x ncc ngksi))
+told-passes (verifyS1ToN1 v) x e = told-sends (numbersOf (verifyS1ToN1 v)) x [] containerPlace (λ c. []) (omega arith)
 
-told : (k : Call) (x : Context) → Told (numbersOf (call k)) x (lent k) (gives k x)
+told : (k : Call) (x : Context) → Told (numbersOf k) x (lent k) (gives k x)
 told k x = go (eqb (refusalOf k x) 0) refl
   where
-    go : (t : Bool) → eqb (refusalOf k x) 0 ≡ t → Told (numbersOf (call k)) x (lent k) (gives k x)
+    go : (t : Bool) → eqb (refusalOf k x) 0 ≡ t → Told (numbersOf k) x (lent k) (gives k x)
     go true e = let z = eqb-true (refusalOf k x) 0 e in rw (gives-passed k x z) (told-passes k x z)
     go false e =
         let n = eqb-false (refusalOf k x) 0 e in
-        rw (gives-refused k x n) (told-alone (numbersOf (call k)) x (lent k) (refusalOf k x) (refusal-listed k x n))
+        rw (gives-refused k x n) (told-alone (numbersOf k) x (lent k) (refusalOf k x) (refusal-listed k x n))
 
-told-reselect : (x : Context) (i c : ℕ) (ik ck : List ℕ) → Told (13 ∷ 14 ∷ 16 ∷ []) x [] (givesAny (reselect i c ik ck) x)
-unfolding reselectOf
-told-reselect x i c ik ck = go (eqb (first (faultOf x ∷ 13 when unbuilt i c ∷ [])) 0) refl
-  where
-    go : (t : Bool) → eqb (first (faultOf x ∷ 13 when unbuilt i c ∷ [])) 0 ≡ t
-        → Told (13 ∷ 14 ∷ 16 ∷ []) x [] (outcome changeValues (
-        cond t (leaves change.Done (record { core = coreWith i c ik ck (x .core .size); records = x .records }) [])
-        (leaves (change.Refused (first (faultOf x ∷ 13 when unbuilt i c ∷ []))) x [])))
-    go true e = record { answers = inl refl; kept = λ a b. absurd (a refl); behind = refl; room = refl; within = omega arith }
-    go false e =
-        told-alone (13 ∷ 14 ∷ 16 ∷ []) x [] (first (faultOf x ∷ 13 when unbuilt i c ∷ []))
-        (reselect-listed x i c (eqb-false (first (faultOf x ∷ 13 when unbuilt i c ∷ [])) 0 e))
+fault-told : (k : Call) (x : Context) → (faultOf x ≡ 0 → ⊥) → gives k x .values ≡ refusal (faultOf x)
+fault-told k x f = let e = fault-first k x f in rw (gives-refused k x (λ z. f (sym e ∙ z))) (ap refusal e)
 
-told-any : (k : Any) (x : Context) → Told (numbersOf k) x (lentAny k) (givesAny k x)
-told-any (call k) x = told k x
-told-any (reselect i c ik ck) x = told-reselect x i c ik ck
-
-fault-told : (k : Any) (x : Context) → (faultOf x ≡ 0 → ⊥) → givesAny k x .values ≡ refusal (faultOf x)
-unfolding reselectOf
-fault-told (call k) x f =
-    let e = fault-first k x f in rw (gives-refused k x (λ z. f (sym e ∙ z))) (ap refusal e)
-fault-told (reselect i c ik ck) x f = simp (ne-eqb (faultOf x) 0 f)
-
-pub demand1 : (k : Any) (x : Context) → Demand1 k x
+pub demand1 : (k : Call) (x : Context) → Demand1 k x
 demand1 k x =
-    let t = told-any k x in
+    let t = told k x in
     record { answers = t .answers; kept = t .kept; behind = t .behind; room = t .room; within = t .within; fault = fault-told k x }
 
 -- what an open call hands over
@@ -252,6 +233,7 @@ module _ (x : Context) where
   passes-uses : (k : Call) → UsedAs (placeIn k) (MayBeLate k) (passes k x)
   unfolding opened handed epsOpened epsHanded
   passes-uses (setWindow n) u = let z : _≡_ {A = ℕ} 0 1 = cc in absurd (omega arith)
+  passes-uses (reselect i c ik ck) u = let z : _≡_ {A = ℕ} 0 1 = cc in absurd (omega arith)
   passes-uses (seal5gs t d k inner out) u = sent-uses (placeOf d k) ⊥ (λ c. envelope (x .core) t c (bearerNo k) (directionNo d) inner) out u
   passes-uses (sealOpaque t d k inner out) u = sent-uses (placeOf d k) ⊥ (λ c. envelope (x .core) t c (bearerNo k) (directionNo d) inner) out u
   passes-uses (open5gs d k m out) u =

@@ -2,6 +2,7 @@
 use Prim.Native.Nat.{ℕ, zero, suc, _+_, _≤_, _<_}
 use mathlib.Core.Path.{_≡_, refl}
 use mathlib.Core.Bool.{Bool, true, false, cond, _||_}
+use mathlib.Core.Logic.{_⊎_, inl, inr}
 use mathlib.Core.List.{List, [], _∷_}
 use native.Mathlib.Omega.{arith}
 use lib.ListN.{getD}
@@ -9,18 +10,19 @@ use lib.Dec.{ltb}
 use borrow.Author.Tests.{ltb-false}
 use Rattle.count.specs.declared.Candidate.the-variants.{Nothing}
 use Rattle.count.specs.Rule.{exhausted, lateOf, opening, forwardOnly}
-use Rattle.count.specs.Run.{actOf}
+use Rattle.count.specs.Run.{stay, close, actOf}
 use Rattle.refusals.specs.Order.{_when_}
 use Rattle.refusals.proofs.Laws.{passed, off}
-use Rattle.nas_core.specs.Keyed.{wraps}
+use Rattle.nas_core.specs.Keyed.{wraps, awayFromNull}
 use Rattle.nas_core.specs.Refusals.{unbuilt, coreRefusals, coreFault}
 use Rattle.nas_core.specs.Verify.{fits, verifyOf}
 use Rattle.nas_5gs.specs.declared.Context.{Context}
 use Rattle.nas_5gs.specs.Places.{directionNo, bearerNo, placeOf, four, recordAt, nextAt, anyOver, contextRefusals, faultOf}
 use Rattle.nas_5gs.specs.Eps.{epsPlace, epsBearer, epsDirection}
 use Rattle.nas_5gs.specs.Containers.{containerPlace}
-use Rattle.promises.specs.Calls.{Call, setWindow, seal5gs, sealOpaque, open5gs, sealEps, openEps, makeN1ToS1, verifyN1ToS1, makeS1ToN1, verifyS1ToN1, gives}
-use Rattle.promises.proofs.Shapes.{refusalOf, passing, does, acts}
+use Rattle.promises.specs.Calls.{Call, setWindow, reselect, seal5gs, sealOpaque, open5gs, sealEps, openEps, makeN1ToS1, verifyN1ToS1, makeS1ToN1, verifyS1ToN1, gives}
+use Rattle.promises.specs.Words.{SameKeys}
+use Rattle.promises.proofs.Shapes.{refusalOf, passing, does, Reselects, acts}
 use Rattle.promise.specs.Limits.{Bounded}
 use Rattle.promise.proofs.Limits.{next-bounded, tried-bounded, limits}
 use Rattle.promises.proofs.Soundness.{Four, machine, acting, if-passed, NextThere, next-there, stays-four}
@@ -35,7 +37,7 @@ or-false : (a b : Bool) → a || b ≡ false → (a ≡ false) × (b ≡ false)
 or-false true b e = (e, (cc))
 or-false false b e = (refl, e)
 
-by-place : (f : ℕ → ℕ) → f 0 ≤ exhausted → f 1 ≤ exhausted → f 2 ≤ exhausted → f 3 ≤ exhausted → (p : ℕ) → p < 4 → f p ≤ exhausted
+pub by-place : (f : ℕ → ℕ) → f 0 ≤ exhausted → f 1 ≤ exhausted → f 2 ≤ exhausted → f 3 ≤ exhausted → (p : ℕ) → p < 4 → f p ≤ exhausted
 by-place f a b c d zero h = a
 by-place f a b c d (suc zero) h = b
 by-place f a b c d (suc (suc zero)) h = c
@@ -72,8 +74,13 @@ octet-bounded : (x : Context) (s : ℕ) → Bounded (passing (verifyN1ToS1 s) x)
 unfolding forwardOnly
 octet-bounded x s = tried-bounded 8 (wraps (x .core)) (λ c. true) Nothing (recordAt x containerPlace) s
 
+closing-bounded : (t : Bool) → Bounded (cond t close stay)
+closing-bounded true = tt
+closing-bounded false = tt
+
 passing-bounded : (k : Call) (x : Context) → refusalOf k x ≡ 0 → NextThere k x → Bounded (passing k x)
 passing-bounded (setWindow n) x e h = ltb-false 64 n (off 14 (ltb 64 n) (omega arith) (passed (faultOf x ∷ 14 when (ltb 64 n) ∷ []) e 1))
+passing-bounded (reselect i c ik ck) x e h = closing-bounded (awayFromNull (x .core .integrity) i)
 passing-bounded (seal5gs t d k inner out) x e h = next-bounded (wraps (x .core)) (nextAt x (placeOf d k)) h
 passing-bounded (sealOpaque t d k inner out) x e h = next-bounded (wraps (x .core)) (nextAt x (placeOf d k)) h
 passing-bounded (open5gs d k m out) x e h = verify-bounded x (placeOf d k) (bearerNo k) (directionNo d) 2 m
@@ -87,13 +94,16 @@ passing-bounded (verifyS1ToN1 v) x e h = next-bounded (wraps (x .core)) (nextAt 
 does-bounded : (k : Call) (x : Context) → Bounded (does k x)
 does-bounded k x = if-passed Bounded (refusalOf k x) (passing k x) tt (λ e. passing-bounded k x e (next-there k x e))
 
+codes-built : (k : Call) (x : Context) → Faultless x → SameKeys (x .core) (gives k x .context .core) ⊎ Reselects k x
+    → let y = gives k x .context .core in unbuilt (y .integrity) (y .ciphering) ≡ false
+codes-built k x f (inl s) = rw (← (s .integrity), ← (s .ciphering)) (f .built)
+codes-built k x f (inr r) = rw (r .core-after) (r .built)
+
 pub stays-faultless : (k : Call) (x : Context) → Four x → Faultless x → Faultless (gives k x .context)
 stays-faultless k x four f =
     let a = acts k x four in
-    let ki = a .keys-after .integrity in
-    let kc = a .keys-after .ciphering in
     let l = limits Context Call machine Four acting k x four (does-bounded k x) record { small = f .small; counts = λ p h. f .counts p (omega arith) } in
-    record { built = rw (← ki, ← kc) (f .built); small = l .small; counts = λ p h. l .counts p (omega (arith, stays-four k x four)) }
+    record { built = codes-built k x f (a .keys-after); small = l .small; counts = λ p h. l .counts p (omega (arith, stays-four k x four)) }
 
 pub fault-stays : (k : Call) (x : Context) → Four x → faultOf x ≡ 0 → faultOf (gives k x .context) ≡ 0
 fault-stays k x four e =

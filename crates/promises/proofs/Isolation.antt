@@ -2,6 +2,7 @@
 use Prim.Native.Nat.{ℕ, _<_}
 use mathlib.Core.Path.{_≡_, refl, sym, ap, _∙_, subst}
 use mathlib.Core.Bool.{Bool, true, false, cond}
+use mathlib.Core.Logic.{_⊎_, inl, inr}
 use mathlib.Core.List.{List, [], _∷_}
 use native.Mathlib.Omega.{arith}
 use lib.ListN.{drop}
@@ -10,7 +11,7 @@ use borrow.Author.Tests.{eqb-true, eqb-false}
 use Rattle.count.specs.declared.Opening.{Opening}
 use Rattle.count.specs.declared.Opening.the-variants.{Late, Forward, None, Wrong}
 use Rattle.count.specs.declared.Record.{Record}
-use Rattle.count.specs.Run.{State, Act, stay, uses, resize, actOf}
+use Rattle.count.specs.Run.{State, Act, stay, uses, resize, close, actOf}
 use Rattle.count.proofs.Lifting.{others}
 use Rattle.nas_core.specs.Keyed.{wraps}
 use Rattle.nas_5gs.specs.declared.Context.{Context}
@@ -25,20 +26,21 @@ use Rattle.nas_5gs.specs.Seal.{sealRefusal, opaqueRefusal}
 use Rattle.nas_5gs.specs.Open.{openRefusal, opened, handed}
 use Rattle.nas_5gs.specs.Eps.{epsPlace, epsMessage, sealEpsRefusal, openEpsRefusal, epsOpened, epsHanded}
 use Rattle.nas_5gs.specs.Containers.{containerPlace, s1ToN1, s1ToN1Refusal, verifyS1ToN1Refusal}
-use Rattle.promises.specs.Calls.{Call, setWindow, seal5gs, sealOpaque, open5gs, sealEps, openEps, makeN1ToS1, verifyN1ToS1, makeS1ToN1, verifyS1ToN1, Outcome, outcome, gives, lent, placeIn, contextAfter}
-use Rattle.promises.specs.Words.{recordOf}
+use Rattle.promises.specs.Calls.{Call, setWindow, reselect, seal5gs, sealOpaque, open5gs, sealEps, openEps, makeN1ToS1, verifyN1ToS1, makeS1ToN1, verifyS1ToN1, Outcome, outcome, gives, lent, placeIn, contextAfter}
+use Rattle.promises.specs.Words.{SameKeys, recordOf}
 use Rattle.promises.specs.Isolation.{Elsewhere, Apart, Isolation}
-use Rattle.promises.proofs.Shapes.{refusalOf, passing, does, acts, found, plain, openedAs, epsFound, epsAs, octetFound, octetRefused, octetUsed}
+use Rattle.promises.proofs.Shapes.{refusalOf, passing, does, Reselects, acts, found, plain, openedAs, epsFound, epsAs, octetFound, octetRefused, octetUsed}
 use Rattle.promises.proofs.Soundness.{machine, Four, acting, if-passed, stays-four}
 use Rattle.promises.proofs.Passing.{passes, alone, sends, gives-is, gives-refused}
 use Rattle.promises.proofs.Numbers.{fault-first}
 use Rattle.promises.proofs.Faults.{fault-stays}
 
--- no new size
+-- no new size, nothing closed
 abbrev Quiet : Act → Type 0
 Quiet stay = Unit {0}
 Quiet (uses w c) = Unit {0}
 Quiet (resize n) = ⊥
+Quiet close = ⊥
 
 found-quiet : (w : Bool) (o : Opening) → Quiet (actOf w o)
 found-quiet w (Late c) = tt
@@ -48,6 +50,7 @@ found-quiet w Wrong = tt
 
 passing-quiet : (k : Call) (x : Context) → placeIn k < 4 → Quiet (passing k x)
 passing-quiet (setWindow n) x h = absurd (omega arith)
+passing-quiet (reselect i c ik ck) x h = absurd (omega arith)
 passing-quiet (seal5gs t d k inner out) x h = tt
 passing-quiet (sealOpaque t d k inner out) x h = tt
 passing-quiet (open5gs d k m out) x h = found-quiet (wraps (x .core)) (found x (placeOf d k) (bearerNo k) (directionNo d) m out)
@@ -59,20 +62,23 @@ passing-quiet (makeS1ToN1 ncc ngksi out) x h = tt
 passing-quiet (verifyS1ToN1 v) x h = tt
 
 module _ (k : Call) (x : Context) (on : placeIn k < 4) where
-  not-resize : (n : ℕ) → does k x ≡ resize n → ⊥
-  not-resize n e =
-      subst Quiet e (if-passed Quiet (refusalOf k x) (passing k x) tt (λ z. passing-quiet k x on))
+  does-quiet : Quiet (does k x)
+  does-quiet = if-passed Quiet (refusalOf k x) (passing k x) tt (λ z. passing-quiet k x on)
 
   same-size : Four x → gives k x .context .core .size ≡ x .core .size
-  same-size four = acts k x four .size-after ∙ go (does k x) (if-passed Quiet (refusalOf k x) (passing k x) tt (λ z. passing-quiet k x on))
+  same-size four = acts k x four .size-after ∙ go (does k x) does-quiet
     where
       go : (a : Act) → Quiet a → Rattle.count.specs.Run.act a (recordOf (placeIn k) x) .size ≡ x .core .size
       go stay q = refl
       go (uses w c) q = refl
 
+  keys-stay : SameKeys (x .core) (gives k x .context .core) ⊎ Reselects k x → SameKeys (x .core) (gives k x .context .core)
+  keys-stay (inl s) = s
+  keys-stay (inr r) = let h = subst (λ (k : Call). placeIn k < 4) (r .is) on in absurd (omega arith)
+
   core-stays : Four x → gives k x .context .core ≡ x .core
   core-stays four =
-      let s = acts k x four .keys-after in
+      let s = keys-stay (acts k x four .keys-after) in
       λ i. record {
         integrity = sym (s .integrity) i;
         ciphering = sym (s .ciphering) i;
@@ -83,7 +89,7 @@ module _ (k : Call) (x : Context) (on : placeIn k < 4) where
 
   record-stays : Four x → (p : ℕ) → p < 4 → (p ≡ placeIn k → ⊥) → recordAt (gives k x .context) p ≡ recordAt x p
   record-stays four p there ne =
-      ap (λ (s : State). s .at) (others Context Call machine Four acting k x four p (omega arith) ne not-resize)
+      ap (λ (s : State). s .at) (others Context Call machine Four acting k x four p (omega arith) ne (λ n e. subst Quiet e does-quiet) (λ e. subst Quiet e does-quiet))
 
   fault-same : Four x → faultOf (gives k x .context) ≡ faultOf x
   fault-same four = go (eqb (faultOf x) 0) refl
@@ -106,6 +112,7 @@ module _ (x : Context) (l : List Record) where
     same-refusal : (k : Call) → recordAt y (placeIn k) ≡ recordAt x (placeIn k) → refusalOf k y ≡ refusalOf k x
     unfolding sealRefusal opaqueRefusal openRefusal sealEpsRefusal openEpsRefusal s1ToN1Refusal verifyS1ToN1Refusal
     same-refusal (setWindow n) e = rw fault
+    same-refusal (reselect i c ik ck) e = rw fault
     same-refusal (seal5gs t d k inner out) e = rw (fault, e)
     same-refusal (sealOpaque t d k inner out) e = rw (fault, e)
     same-refusal (open5gs d k m out) e = rw fault
@@ -131,6 +138,7 @@ module _ (x : Context) (l : List Record) where
     same-passes : (k : Call) → placeIn k < 4 → recordAt y (placeIn k) ≡ recordAt x (placeIn k) → Same (passes k y) (passes k x)
     unfolding opened handed epsOpened epsHanded
     same-passes (setWindow n) on e = absurd (omega arith)
+    same-passes (reselect i c ik ck) on e = absurd (omega arith)
     same-passes (seal5gs t d k inner out) on e =
         sends-same (placeOf d k) (λ c. envelope (x .core) t c (bearerNo k) (directionNo d) inner) out e
     same-passes (sealOpaque t d k inner out) on e =

@@ -1,13 +1,16 @@
 -- The 5GS context as an instance of crate promise: the words of a run, contexts that are good, and its two kinds of message.
 use Prim.Native.Nat.{ℕ, _%_, _≤_, _<_}
 use mathlib.Core.Path.{_≡_, refl, sym, ap, _∙_, subst}
-use mathlib.Core.Bool.{Bool, true, false}
-use mathlib.Core.List.{List}
+use mathlib.Core.Bool.{Bool, true, false, cond}
+use mathlib.Core.Logic.{_⊎_, inl, inr}
+use mathlib.Core.List.{List, []}
 use native.Mathlib.Omega.{arith}
 use lib.ListN.{length, drop}
+use lib.Dec.{eqb}
 use Rattle.count.specs.declared.Opening.{Opening}
 use Rattle.count.specs.Rule.{exhausted, opening}
-use Rattle.count.specs.Run.{Act, actOf}
+use Rattle.count.specs.Run.{Act, stay, act, actOf, used, Valid}
+use Rattle.count.specs.Machine.{Machine, recordsAfter}
 use Rattle.nas_core.specs.declared.Core.{Core}
 use Rattle.nas_core.specs.Keyed.{wraps, codeBy, payload}
 use Rattle.nas_core.specs.Refusals.{limit}
@@ -24,23 +27,51 @@ use Rattle.promise.specs.Kept.{Keeping}
 use Rattle.promise.specs.Messages.{Kind, ByRule, AllByRule}
 use Rattle.promise.proofs.Acts.{unless}
 use Rattle.promise.proofs.Answers.{named, names, takes-taken}
-use Rattle.promises.specs.Calls.{Call, open5gs, openEps, gives, contextAfter, countsUsed, usedBy}
-use Rattle.promises.specs.Words.{SameKeys, Uses, TakenAs}
+use Rattle.promises.specs.Calls.{Call, setWindow, reselect, seal5gs, sealOpaque, open5gs, sealEps, openEps, makeN1ToS1, verifyN1ToS1, makeS1ToN1, verifyS1ToN1, Outcome, gives, placeIn, contextAfter, countsUsed, usedBy}
+use Rattle.promises.specs.Words.{SameKeys, recordOf, Uses, TakenAs}
 use Rattle.promises.specs.Demand3.{InsideSince}
-use Rattle.promises.proofs.Shapes.{holding, acts, found, epsFound}
-use Rattle.promises.proofs.Soundness.{machine, Good, sound}
+use Rattle.promises.proofs.Shapes.{holding, does, Reselects, acts, found, epsFound}
+use Rattle.promises.proofs.Soundness.{Good, does-valid, stays-four}
+use Rattle.promises.proofs.Passing.{alone}
 use Rattle.promises.proofs.Faults.{Faultless, stays-faultless}
 use Rattle.promises.proofs.Opening.{Sealed, envelope-sealed, eps-sealed, envelope-same, eps-same}
 use Rattle.promises.proofs.Taking.{no-fault, open-answering, eps-answering, open-left, eps-left, open-passes, eps-passes, envelope-type, envelope-first, envelope-long, envelope-back, eps-first, verify-is}
 
+-- The context that refuses every reselection to null. What is kept holds of it over any calls, and ours is it as long as no reselection to null is accepted.
+abbrev pub toNull : Call → Bool
+toNull (setWindow n) = false
+toNull (reselect i c ik ck) = eqb i 0
+toNull (seal5gs t d k inner out) = false
+toNull (sealOpaque t d k inner out) = false
+toNull (open5gs d k m out) = false
+toNull (sealEps inner out) = false
+toNull (openEps m out) = false
+toNull makeN1ToS1 = false
+toNull (verifyN1ToS1 s) = false
+toNull (makeS1ToN1 ncc ngksi out) = false
+toNull (verifyS1ToN1 v) = false
+
+abbrev pub givesGuarded : Call → Context → Outcome
+givesGuarded k x = cond (toNull k) (alone 13 x []) (gives k x)
+
+abbrev pub guardedMachine : Machine Context Call
+guardedMachine =
+    record {
+      size = λ x. x .core .size;
+      records = λ x. x .records;
+      gives = λ k x. givesGuarded k x .context;
+      place = λ k x. placeIn k;
+      does = λ k x. cond (toNull k) stay (does k x);
+    }
+
 -- each equation of a reader's word is how it is written
-abbrev pub words : Words machine
+abbrev pub words : Words guardedMachine
 words =
     record {
-      answered = λ k x. usedBy (gives k x .values);
-      after = contextAfter gives;
-      counts = countsUsed gives;
-      lain = InsideSince gives;
+      answered = λ k x. usedBy (givesGuarded k x .values);
+      after = contextAfter givesGuarded;
+      counts = countsUsed givesGuarded;
+      lain = InsideSince givesGuarded;
       after-none = λ x. refl;
       after-call = λ k x ks. refl;
       counts-none = λ p x. refl;
@@ -54,20 +85,48 @@ pub record Guarded (x : Context) : Type 0 where
   pub good : Good x
   pub ok : Faultless x
 
+module _ (k : Call) (x : Context) (g : Guarded x) where
+  size-guarded : (t : Bool)
+      → cond t (alone 13 x []) (gives k x) .context .core .size ≡ act (cond t stay (does k x)) (recordOf (placeIn k) x) .size
+  size-guarded true = refl
+  size-guarded false = acts k x (g .good .four) .size-after
+
+  records-guarded : (t : Bool)
+      → cond t (alone 13 x []) (gives k x) .context .records ≡ recordsAfter (placeIn k) (cond t stay (does k x)) (x .core .size) (x .records)
+  records-guarded true = refl
+  records-guarded false = acts k x (g .good .four) .records-after
+
+  counts-guarded : (t : Bool) → usedBy (cond t (alone 13 x []) (gives k x) .values) ≡ used (cond t stay (does k x))
+  counts-guarded true = refl
+  counts-guarded false = acts k x (g .good .four) .counts
+
+  valid-guarded : (t : Bool) → Valid (cond t stay (does k x)) (recordOf (placeIn k) x)
+  valid-guarded true = tt
+  valid-guarded false = does-valid x (g .good .guarded) k
+
+  not-null : toNull k ≡ false → SameKeys (x .core) (gives k x .context .core) ⊎ Reselects k x → wraps (gives k x .context .core) ≡ false
+  unfolding wraps
+  not-null e (inl s) = rw (← (s .integrity)) (g .good .guarded)
+  not-null e (inr r) = rw (r .core-after) (subst (λ (k : Call). toNull k ≡ false) (r .is) e)
+
+  stays-guarded : (t : Bool) → toNull k ≡ t → Guarded (cond t (alone 13 x []) (gives k x) .context)
+  stays-guarded true e = g
+  stays-guarded false e =
+      record {
+        good = record { four = stays-four k x (g .good .four); guarded = not-null e (acts k x (g .good .four) .keys-after) };
+        ok = stays-faultless k x (g .good .four) (g .ok);
+      }
+
 pub keeping : Keeping words Guarded
 keeping =
     record {
       sound =
           record {
-            acting =
-                record {
-                  size-after = λ k x g. acts k x (g .good .four) .size-after;
-                  records-after = λ k x g. acts k x (g .good .four) .records-after;
-                };
-            stays = λ k x g. record { good = sound .stays k x (g .good); ok = stays-faultless k x (g .good .four) (g .ok) };
-            valid = λ k x g. sound .valid k x (g .good);
+            acting = record { size-after = λ k x g. size-guarded k x g (toNull k); records-after = λ k x g. records-guarded k x g (toNull k) };
+            stays = λ k x g. stays-guarded k x g (toNull k) refl;
+            valid = λ k x g. valid-guarded k x g (toNull k);
           };
-      answers = λ k x g. acts k x (g .good .four) .counts;
+      answers = λ k x g. counts-guarded k x g (toNull k);
     }
 
 pub fault-none : (x : Context) → Guarded x → faultOf x ≡ 0
@@ -118,7 +177,7 @@ pub record Ready (x : Context) (m : Message) (c : ℕ) : Type 0 where
   pub low : length (innerOf m) ≤ limit
   pub room : length (innerOf m) ≤ length (roomOf m)
 
-abbrev pub messages : Kind machine
+abbrev pub messages : Kind guardedMachine
 messages =
     record {
       Message = Message;

@@ -11,7 +11,7 @@ use Rattle.count.specs.declared.Opening.{Opening}
 use Rattle.count.specs.declared.Opening.the-variants.{Late, Forward, None, Wrong}
 use Rattle.count.specs.declared.Candidate.the-variants.{Nothing}
 use Rattle.count.specs.Rule.{exhausted, distance, forwardOf, forwardOnly, useRound}
-use Rattle.count.specs.Run.{State, Act, stay, uses, forward, late, round, resize, act, actOf, used}
+use Rattle.count.specs.Run.{State, Act, stay, uses, forward, late, round, resize, close, act, actOf, used}
 use Rattle.count.proofs.Null.{null}
 use Rattle.count.proofs.Candidates.{never}
 use Rattle.count.proofs.Openings.{answers}
@@ -25,7 +25,7 @@ use Rattle.nas_5gs.specs.Places.{directionNo, bearerNo, placeOf, recordAt, next
 use Rattle.nas_5gs.specs.Leaves.{openValues, epsOpenValues}
 use Rattle.nas_5gs.specs.Eps.{epsPlace, epsBearer, epsDirection}
 use Rattle.nas_5gs.specs.Containers.{containerPlace, containerBearer, containerDirection, s1Count}
-use Rattle.promises.specs.Calls.{Call, setWindow, seal5gs, sealOpaque, open5gs, sealEps, openEps, makeN1ToS1, verifyN1ToS1, makeS1ToN1, verifyS1ToN1, gives, placeIn}
+use Rattle.promises.specs.Calls.{Call, setWindow, reselect, seal5gs, sealOpaque, open5gs, sealEps, openEps, makeN1ToS1, verifyN1ToS1, makeS1ToN1, verifyS1ToN1, gives, placeIn}
 use Rattle.promises.specs.Words.{recordOf, Uses}
 use Rattle.promises.specs.Null.{NullHolds}
 use Rattle.promise.proofs.Answers.{named}
@@ -41,6 +41,7 @@ Round (uses forward c) = ⊥
 Round (uses late c) = ⊥
 Round (uses round c) = Unit {0}
 Round (resize n) = ⊥
+Round close = ⊥
 
 round-only : (fit : ℕ → Bool) (s : State) (n : ℕ) (o : Opening) → forwardOnly 8 true fit (s .at) n ≡ o → Round (actOf true o)
 round-only fit s n (Late c) e = null 8 fit s n .never-late c e
@@ -67,6 +68,7 @@ module _ (x : Context) (w : wraps (x .core) ≡ true) where
 
   passing-round : (k : Call) → placeIn k < 4 → Round (passing k x)
   passing-round (setWindow n) on = absurd (omega arith)
+  passing-round (reselect i c ik ck) on = absurd (omega arith)
   passing-round (seal5gs t d k inner out) on = next-round (placeOf d k)
   passing-round (sealOpaque t d k inner out) on = next-round (placeOf d k)
   passing-round (open5gs d k m out) on = verify-round (placeOf d k) (bearerNo k) (directionNo d) 2 m

@@ -21,7 +21,7 @@ use Rattle.nas_5gs.specs.Seal.{sealRefusals, sealRefusal, opaqueRefusals, opaqu
 use Rattle.nas_5gs.specs.Open.{typeOf, openRefusals, openRefusal}
 use Rattle.nas_5gs.specs.Eps.{epsPlace, notEps, sealEpsRefusals, sealEpsRefusal, openEpsRefusals, openEpsRefusal}
 use Rattle.nas_5gs.specs.Containers.{containerBearer, containerDirection, noneLeft, s1Count, s1ToN1Refusals, s1ToN1Refusal, otherAlgorithms, verifyS1ToN1Refusals, verifyS1ToN1Refusal}
-use Rattle.promises.specs.Calls.{Call, setWindow, seal5gs, sealOpaque, open5gs, sealEps, openEps, makeN1ToS1, verifyN1ToS1, makeS1ToN1, verifyS1ToN1, call}
+use Rattle.promises.specs.Calls.{Call, setWindow, reselect, seal5gs, sealOpaque, open5gs, sealEps, openEps, makeN1ToS1, verifyN1ToS1, makeS1ToN1, verifyS1ToN1}
 use Rattle.promises.specs.Demand1.{numbersOf}
 use Rattle.promises.proofs.Shapes.{refusalOf}
 
@@ -91,6 +91,7 @@ module _ (s : List ℕ) where
 -- the numbers of the refusals before the code is looked at
 abbrev pub early : Call → List ℕ
 early (setWindow n) = 13 ∷ 14 ∷ 16 ∷ []
+early (reselect i c ik ck) = 13 ∷ 14 ∷ 16 ∷ []
 early (seal5gs t d k inner out) = 13 ∷ 14 ∷ 16 ∷ 9 ∷ 3 ∷ 10 ∷ 11 ∷ 4 ∷ 5 ∷ 6 ∷ []
 early (sealOpaque t d k inner out) = 13 ∷ 14 ∷ 16 ∷ 3 ∷ 4 ∷ 5 ∷ 6 ∷ []
 early (open5gs d k m out) = 13 ∷ 14 ∷ 16 ∷ 1 ∷ 2 ∷ 3 ∷ 4 ∷ 5 ∷ []
@@ -106,6 +107,9 @@ unfolding sealRefusal opaqueRefusal openRefusal sealEpsRefusal openEpsRefusal s1
 refusal-early (setWindow n) x =
     let s = early (setWindow n) in
     first-among s (faultOf x ∷ 14 when (ltb 64 n) ∷ []) (fault-among s x refl refl refl & may s 14 (ltb 64 n) refl & none)
+refusal-early (reselect i c ik ck) x =
+    let s = early (reselect i c ik ck) in
+    first-among s (faultOf x ∷ 13 when unbuilt i c ∷ []) (fault-among s x refl refl refl & may s 13 (unbuilt i c) refl & none)
 refusal-early (seal5gs t d k inner out) x =
     let s = early (seal5gs t d k inner out) in
     let e = directionNo d in
@@ -158,9 +162,10 @@ unfolding subset
 widen (a ∷ l) s e n (inl q) = rw q (there a s (and-parts (isIn a s) (subset l s) e .0))
 widen (a ∷ l) s e n (inr h) = widen l s (and-parts (isIn a s) (subset l s) e .1) n h
 
-early-in : (k : Call) → (subset (early k) (numbersOf (call k)) ≡ true) × (isIn 8 (early k) ≡ false)
+early-in : (k : Call) → (subset (early k) (numbersOf k) ≡ true) × (isIn 8 (early k) ≡ false)
 unfolding subset
 early-in (setWindow n) = (refl, refl)
+early-in (reselect i c ik ck) = (refl, refl)
 early-in (seal5gs t d k inner out) = (refl, refl)
 early-in (sealOpaque t d k inner out) = (refl, refl)
 early-in (open5gs d k m out) = (refl, refl)
@@ -172,12 +177,12 @@ early-in (makeS1ToN1 ncc ngksi out) = (refl, refl)
 early-in (verifyS1ToN1 v) = (refl, refl)
 
 module _ (k : Call) (x : Context) (refused : refusalOf k x ≡ 0 → ⊥) where
-  pub refusal-listed : In (refusalOf k x) (numbersOf (call k))
+  pub refusal-listed : In (refusalOf k x) (numbersOf k)
   refusal-listed = go (refusal-early k x)
     where
-      go : Among (early k) (refusalOf k x) → In (refusalOf k x) (numbersOf (call k))
+      go : Among (early k) (refusalOf k x) → In (refusalOf k x) (numbersOf k)
       go (inl e) = absurd (refused e)
-      go (inr h) = widen (early k) (numbersOf (call k)) (early-in k .0) (refusalOf k x) h
+      go (inr h) = widen (early k) (numbersOf k) (early-in k .0) (refusalOf k x) h
 
   pub refusal-not-8 : refusalOf k x ≡ 8 → ⊥
   refusal-not-8 e = go (refusal-early k x)
@@ -190,6 +195,7 @@ module _ (k : Call) (x : Context) (refused : refusalOf k x ≡ 0 → ⊥) where
 pub fault-first : (k : Call) (x : Context) → (faultOf x ≡ 0 → ⊥) → refusalOf k x ≡ faultOf x
 unfolding sealRefusal opaqueRefusal openRefusal sealEpsRefusal openEpsRefusal s1ToN1Refusal verifyS1ToN1Refusal
 fault-first (setWindow n) x f = rw (ne-eqb (faultOf x) 0 f)
+fault-first (reselect i c ik ck) x f = rw (ne-eqb (faultOf x) 0 f)
 fault-first (seal5gs t d k inner out) x f = rw (ne-eqb (faultOf x) 0 f)
 fault-first (sealOpaque t d k inner out) x f = rw (ne-eqb (faultOf x) 0 f)
 fault-first (open5gs d k m out) x f = rw (ne-eqb (faultOf x) 0 f)
@@ -199,15 +205,6 @@ fault-first makeN1ToS1 x f = rw (ne-eqb (faultOf x) 0 f)
 fault-first (verifyN1ToS1 s) x f = refl
 fault-first (makeS1ToN1 ncc ngksi out) x f = rw (ne-eqb (faultOf x) 0 f)
 fault-first (verifyS1ToN1 v) x f = rw (ne-eqb (faultOf x) 0 f)
-
-pub reselect-listed : (x : Context) (i c : ℕ) → (first (faultOf x ∷ 13 when unbuilt i c ∷ []) ≡ 0 → ⊥)
-    → In (first (faultOf x ∷ 13 when unbuilt i c ∷ [])) (13 ∷ 14 ∷ 16 ∷ [])
-reselect-listed x i c f =
-    let s : List ℕ = 13 ∷ 14 ∷ 16 ∷ [] in
-    elim (first-among s (faultOf x ∷ 13 when unbuilt i c ∷ []) (fault-among s x refl refl refl & may s 13 (unbuilt i c) refl & none)) [
-      | inl e ↦ absurd (f e)
-      | inr h ↦ h
-    ]
 
 -- what 8 carries
 pub look-listed : (t d : ℕ) (m : List ℕ) → Among (9 ∷ 10 ∷ 11 ∷ []) (lookOf t d m)

@@ -15,13 +15,13 @@ use Rattle.nas_5gs.specs.declared.EpsOpenAnswer.the-variants as eps
 use Rattle.nas_5gs.specs.declared.OctetAnswer.the-variants as octet
 use Rattle.nas_5gs.specs.Places.{directionNo, bearerNo, placeOf, nextAt}
 use Rattle.nas_5gs.specs.Leaves.{Leaves, leaves, useNext, received, Values, refusal, success, changeValues, useValues, openValues, epsOpenValues, octetValues}
-use Rattle.nas_5gs.specs.Changes.{resized, windowOf}
+use Rattle.nas_5gs.specs.Changes.{coreWith, keptFor, reselectOf, resized, windowOf}
 use Rattle.nas_5gs.specs.Envelope.{envelope}
 use Rattle.nas_5gs.specs.Seal.{sent, sealOf, sealOpaqueOf}
 use Rattle.nas_5gs.specs.Open.{opened, openOf}
 use Rattle.nas_5gs.specs.Eps.{epsPlace, epsMessage, sealEpsOf, epsOpened, openEpsOf}
 use Rattle.nas_5gs.specs.Containers.{containerPlace, lastOctet, s1ToN1, n1ToS1Of, verifyN1ToS1Of, s1ToN1Of, verifyS1ToN1Of}
-use Rattle.promises.specs.Calls.{Call, setWindow, seal5gs, sealOpaque, open5gs, sealEps, openEps, makeN1ToS1, verifyN1ToS1, makeS1ToN1, verifyS1ToN1, Outcome, outcome, gives, lent}
+use Rattle.promises.specs.Calls.{Call, setWindow, reselect, seal5gs, sealOpaque, open5gs, sealEps, openEps, makeN1ToS1, verifyN1ToS1, makeS1ToN1, verifyS1ToN1, Outcome, outcome, gives, lent}
 use Rattle.promises.proofs.Shapes.{refusalOf, octetFound, octetRefused, octetUsed}
 
 abbrev pub sends : Context → ℕ → (ℕ → List ℕ) → List ℕ → Outcome
@@ -29,6 +29,8 @@ sends x p made out = outcome useValues (useNext x p made out)
 
 abbrev pub passes : Call → Context → Outcome
 passes (setWindow n) x = record { values = success; context = resized x n; output = [] }
+passes (reselect i c ik ck) x =
+    record { values = success; context = record { core = coreWith i c ik ck (x .core .size); records = keptFor x i .records }; output = [] }
 passes (seal5gs t d k inner out) x = sends x (placeOf d k) (λ c. envelope (x .core) t c (bearerNo k) (directionNo d) inner) out
 passes (sealOpaque t d k inner out) x = sends x (placeOf d k) (λ c. envelope (x .core) t c (bearerNo k) (directionNo d) inner) out
 passes (open5gs d k m out) x = outcome openValues (opened x (placeOf d k) (bearerNo k) (directionNo d) m out)
@@ -52,8 +54,11 @@ split v n r l = go (eqb n 0)
     go false = refl
 
 pub gives-is : (k : Call) (x : Context) → gives k x ≡ refusedOr (refusalOf k x) (λ n. alone n x (lent k)) (passes k x)
-unfolding windowOf sealOf sealOpaqueOf sent openOf sealEpsOf openEpsOf n1ToS1Of verifyN1ToS1Of s1ToN1Of verifyS1ToN1Of
+unfolding windowOf reselectOf sealOf sealOpaqueOf sent openOf sealEpsOf openEpsOf n1ToS1Of verifyN1ToS1Of s1ToN1Of verifyS1ToN1Of
 gives-is (setWindow n) x = split changeValues (refusalOf (setWindow n) x) (λ j. leaves (change.Refused j) x []) (leaves change.Done (resized x n) [])
+gives-is (reselect i c ik ck) x =
+    split changeValues (refusalOf (reselect i c ik ck) x) (λ j. leaves (change.Refused j) x [])
+    (leaves change.Done (record { core = coreWith i c ik ck (x .core .size); records = keptFor x i .records }) [])
 gives-is (seal5gs t d k inner out) x =
     split useValues (refusalOf (seal5gs t d k inner out) x) (λ j. leaves (use′.Refused j) x out)
     (useNext x (placeOf d k) (λ c. envelope (x .core) t c (bearerNo k) (directionNo d) inner) out)

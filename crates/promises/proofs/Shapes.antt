@@ -2,16 +2,21 @@
 use Prim.Native.Nat.{ℕ, _%_}
 use mathlib.Core.Path.{_≡_, refl}
 use mathlib.Core.Bool.{Bool, true, false, cond}
+use mathlib.Core.Logic.{_⊎_, inl, inr, ⊎-elim}
 use mathlib.Core.List.{List, [], _∷_, map}
 use native.Mathlib.Omega.{arith}
 use lib.ListN.{length, getD, set, drop}
 use lib.Dec.{eqb, ltb}
 use Rattle.count.specs.declared.Record.{Record}
 use Rattle.count.specs.declared.Opening.{Opening}
-use Rattle.count.specs.Rule.{resizeOf, useLate, forwardOnly}
-use Rattle.count.specs.Run.{Act, stay, resize, actOf}
+use Rattle.count.specs.Rule.{resizeOf, closeOf, useLate, forwardOnly}
+use Rattle.count.specs.Run.{Act, stay, resize, close, act, actOf, used}
+use borrow.Author.Tests.{eqb-true}
+use Rattle.count.specs.Machine.{recordsAfter}
 use Rattle.refusals.specs.Order.{_when_, first, refusedOr}
-use Rattle.nas_core.specs.Keyed.{wraps, payload}
+use Rattle.refusals.proofs.Laws.{passed, off}
+use Rattle.nas_core.specs.Refusals.{unbuilt}
+use Rattle.nas_core.specs.Keyed.{wraps, payload, awayFromNull}
 use Rattle.nas_core.specs.Verify.{verifyOf, advanced}
 use Rattle.look.specs.Look.{lookOf}
 use Rattle.nas_5gs.specs.declared.Context.{Context}
@@ -25,14 +30,15 @@ use Rattle.nas_5gs.specs.declared.EpsOpenAnswer.the-variants as eps
 use Rattle.nas_5gs.specs.declared.OctetAnswer.the-variants as octet
 use Rattle.nas_5gs.specs.Places.{directionNo, bearerNo, placeOf, four, recordAt, nextAt, faultOf, used as usedAhead, usedLate}
 use Rattle.nas_5gs.specs.Leaves.{Leaves, leaves, over, useNext, received, refusal, changeValues, useValues, openValues, epsOpenValues, octetValues}
-use Rattle.nas_5gs.specs.Changes.{windowOf, resized}
+use Rattle.nas_5gs.specs.Changes.{coreWith, closed, keptFor, reselectOf, windowOf, resized}
 use Rattle.nas_5gs.specs.Envelope.{ciphers, envelope}
 use Rattle.nas_5gs.specs.Seal.{sealRefusal, opaqueRefusal, sent, sealOf, sealOpaqueOf}
 use Rattle.nas_5gs.specs.Open.{typeOf, openRefusal, openAnswer, handed, opened, openOf}
 use Rattle.nas_5gs.specs.Eps.{epsPlace, epsBearer, epsDirection, notEps, epsMessage, sealEpsRefusal, sealEpsOf, openEpsRefusal, epsAnswer, epsHanded, epsOpened, openEpsOf}
 use Rattle.nas_5gs.specs.Containers.{containerPlace, noneLeft, lastOctet, s1ToN1, n1ToS1Of, verifyN1ToS1Of, s1ToN1Refusal, s1ToN1Of, verifyS1ToN1Refusal, verifyS1ToN1Of}
-use Rattle.promises.specs.Calls.{Call, setWindow, seal5gs, sealOpaque, open5gs, sealEps, openEps, makeN1ToS1, verifyN1ToS1, makeS1ToN1, verifyS1ToN1, Outcome, outcome, gives, placeIn, usedBy}
-use Rattle.promise.proofs.Acts.{unless, Holding, next as nextIn, Acts as ActsOn, refused, ahead, below, first-refused, by-opening, sends as sendsBy}
+use Rattle.promises.specs.Calls.{Call, setWindow, reselect, seal5gs, sealOpaque, open5gs, sealEps, openEps, makeN1ToS1, verifyN1ToS1, makeS1ToN1, verifyS1ToN1, Outcome, outcome, gives, placeIn, usedBy}
+use Rattle.promises.specs.Words.{SameKeys, recordOf}
+use Rattle.promise.proofs.Acts.{unless, same-keys, Holding, next as nextIn, Acts as ActsOn, refused, ahead, below, first-refused, by-opening, sends as sendsBy}
 
 -- a 5GS context by its core and records
 pub used-records : (x : Context) (p c : ℕ) → usedAhead x p c .records ≡ set (x .records) p (advanced (x .core) (recordAt x p) c)
@@ -74,6 +80,7 @@ next x p = nextIn holding x p
 -- the refusals that come before an act
 abbrev pub refusalOf : Call → Context → ℕ
 refusalOf (setWindow n) x = first (faultOf x ∷ 14 when (ltb 64 n) ∷ [])
+refusalOf (reselect i c ik ck) x = first (faultOf x ∷ 13 when unbuilt i c ∷ [])
 refusalOf (seal5gs t d k inner out) x = sealRefusal x t (placeOf d k) (directionNo d) inner (length out)
 refusalOf (sealOpaque t d k inner out) x = opaqueRefusal x t (placeOf d k) inner (length out)
 refusalOf (open5gs d k m out) x = openRefusal x m (length out)
@@ -87,6 +94,7 @@ refusalOf (verifyS1ToN1 v) x = verifyS1ToN1Refusal x v
 -- the act of a call that they let pass
 abbrev pub passing : Call → Context → Act
 passing (setWindow n) x = resize n
+passing (reselect i c ik ck) x = cond (awayFromNull (x .core .integrity) i) close stay
 passing (seal5gs t d k inner out) x = next x (placeOf d k)
 passing (sealOpaque t d k inner out) x = next x (placeOf d k)
 passing (open5gs d k m out) x =
@@ -222,17 +230,83 @@ made-acts x =
     (λ k. refused holding x containerPlace (refusal k) [] refl)
     (ahead holding x containerPlace (octetValues (octet.Made c (c % 256))) c [] refl)
 
-pub acts : (k : Call) (x : Context) → length (x .records) ≡ 4 → Acts x (placeIn k) (does k x) (gives k x)
+-- a reselection that is not refused: other keys and codes
+pub record Reselects (k : Call) (x : Context) : Type 0 where
+  pub integrity : ℕ
+  pub ciphering : ℕ
+  pub integrityKey : List ℕ
+  pub cipheringKey : List ℕ
+  pub is : k ≡ reselect integrity ciphering integrityKey cipheringKey
+  pub built : unbuilt integrity ciphering ≡ false
+  pub succeeds : gives k x .values .number ≡ 0
+  pub core-after : gives k x .context .core ≡ coreWith integrity ciphering integrityKey cipheringKey (x .core .size)
+
+-- What a call makes of a context, and of an answer. Keys and codes stay, but by a reselection.
+pub record Acted (k : Call) (x : Context) : Type 0 where
+  pub keys-after : SameKeys (x .core) (gives k x .context .core) ⊎ Reselects k x
+  pub size-after : gives k x .context .core .size ≡ act (does k x) (recordOf (placeIn k) x) .size
+  pub records-after : gives k x .context .records ≡ recordsAfter (placeIn k) (does k x) (x .core .size) (x .records)
+  pub counts : usedBy (gives k x .values) ≡ used (does k x)
+
+kept-keys : (k : Call) (x : Context) → Acts x (placeIn k) (does k x) (gives k x) → Acted k x
+kept-keys k x a =
+    record { keys-after = inl (a .keys-after); size-after = a .size-after; records-after = a .records-after; counts = a .counts }
+
+-- a reselection that is not refused is to codes that are built
+built-by : (x : Context) (i c : ℕ) → eqb (first (faultOf x ∷ 13 when unbuilt i c ∷ [])) 0 ≡ true → unbuilt i c ≡ false
+built-by x i c e =
+    off 13 (unbuilt i c) (omega arith)
+    (passed (faultOf x ∷ 13 when unbuilt i c ∷ []) (eqb-true (first (faultOf x ∷ 13 when unbuilt i c ∷ [])) 0 e) 1)
+
+reselect-acted : (i c : ℕ) (ik ck : List ℕ) (x : Context) → length (x .records) ≡ 4 → Acted (reselect i c ik ck) x
+unfolding reselectOf keptFor closed
+reselect-acted i c ik ck x h =
+    let t = go (eqb (refusalOf (reselect i c ik ck) x) 0) (awayFromNull (x .core .integrity) i) refl in
+    record {
+      keys-after =
+          ⊎-elim inl
+          (λ r.
+          inr record {
+            integrity = i;
+            ciphering = c;
+            integrityKey = ik;
+            cipheringKey = ck;
+            is = refl;
+            built = r .0;
+            succeeds = r .1;
+            core-after = r .2;
+          })
+          (t .0);
+      size-after = t .1;
+      records-after = t .2;
+      counts = t .3;
+    }
+  where
+    go : (t b : Bool) → eqb (refusalOf (reselect i c ik ck) x) 0 ≡ t
+        → let o = outcome changeValues
+        (cond t
+        (leaves change.Done (record { core = coreWith i c ik ck (x .core .size); records = (cond b (closed x) x) .records }) [])
+        (leaves (change.Refused (refusalOf (reselect i c ik ck) x)) x [])) in
+        let a = cond t (cond b close stay) stay in
+        (SameKeys (x .core) (o .context .core)
+        ⊎ ((unbuilt i c ≡ false) × (o .values .number ≡ 0) × (o .context .core ≡ coreWith i c ik ck (x .core .size))))
+        × (o .context .core .size ≡ act a (recordOf 4 x) .size)
+        × (o .context .records ≡ recordsAfter 4 a (x .core .size) (x .records))
+        × (usedBy (o .values) ≡ used a)
+    go true true e = (inr (built-by x i c e, refl, refl), refl, resize-four (closeOf (x .core .size)) (record { next = 0; bits = 0 }) (x .records) h, refl)
+    go true false e = (inr (built-by x i c e, refl, refl), refl, refl, refl)
+    go false b e = (inl (same-keys (x .core)), refl, refl, refl)
+
+pub acts : (k : Call) (x : Context) → length (x .records) ≡ 4 → Acted k x
 unfolding sealOf sealOpaqueOf sent openOf sealEpsOf openEpsOf s1ToN1Of verifyS1ToN1Of
-acts (setWindow n) x h = window-acts x n h
-acts (seal5gs t d k inner out) x h =
-    sends x (placeOf d k) (sealRefusal x t (placeOf d k) (directionNo d) inner (length out)) (λ c. envelope (x .core) t c (bearerNo k) (directionNo d) inner) out
-acts (sealOpaque t d k inner out) x h =
-    sends x (placeOf d k) (opaqueRefusal x t (placeOf d k) inner (length out)) (λ c. envelope (x .core) t c (bearerNo k) (directionNo d) inner) out
-acts (open5gs d k m out) x h = open-acts x (placeOf d k) (bearerNo k) (directionNo d) m out (openRefusal x m (length out))
-acts (sealEps inner out) x h = sends x epsPlace (sealEpsRefusal x inner (length out)) (λ c. epsMessage (x .core) c inner) out
-acts (openEps m out) x h = eps-acts x m out (openEpsRefusal x m (length out))
-acts makeN1ToS1 x h = made-acts x
-acts (verifyN1ToS1 s) x h = octet-acts x s
-acts (makeS1ToN1 ncc ngksi out) x h = sends x containerPlace (s1ToN1Refusal x ncc ngksi (length out)) (λ c. s1ToN1 (x .core) ncc ngksi) out
-acts (verifyS1ToN1 v) x h = sends x containerPlace (verifyS1ToN1Refusal x v) (λ c. []) []
+acts (setWindow n) x h = kept-keys (setWindow n) x (window-acts x n h)
+acts (reselect i c ik ck) x h = reselect-acted i c ik ck x h
+acts (seal5gs t d k inner out) x h = kept-keys (seal5gs t d k inner out) x (sends x (placeOf d k) (sealRefusal x t (placeOf d k) (directionNo d) inner (length out)) (λ c. envelope (x .core) t c (bearerNo k) (directionNo d) inner) out)
+acts (sealOpaque t d k inner out) x h = kept-keys (sealOpaque t d k inner out) x (sends x (placeOf d k) (opaqueRefusal x t (placeOf d k) inner (length out)) (λ c. envelope (x .core) t c (bearerNo k) (directionNo d) inner) out)
+acts (open5gs d k m out) x h = kept-keys (open5gs d k m out) x (open-acts x (placeOf d k) (bearerNo k) (directionNo d) m out (openRefusal x m (length out)))
+acts (sealEps inner out) x h = kept-keys (sealEps inner out) x (sends x epsPlace (sealEpsRefusal x inner (length out)) (λ c. epsMessage (x .core) c inner) out)
+acts (openEps m out) x h = kept-keys (openEps m out) x (eps-acts x m out (openEpsRefusal x m (length out)))
+acts makeN1ToS1 x h = kept-keys makeN1ToS1 x (made-acts x)
+acts (verifyN1ToS1 s) x h = kept-keys (verifyN1ToS1 s) x (octet-acts x s)
+acts (makeS1ToN1 ncc ngksi out) x h = kept-keys (makeS1ToN1 ncc ngksi out) x (sends x containerPlace (s1ToN1Refusal x ncc ngksi (length out)) (λ c. s1ToN1 (x .core) ncc ngksi) out)
+acts (verifyS1ToN1 v) x h = kept-keys (verifyS1ToN1 v) x (sends x containerPlace (verifyS1ToN1Refusal x v) (λ c. []) [])

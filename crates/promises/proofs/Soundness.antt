@@ -8,21 +8,21 @@ use lib.ListN.{length, getD}
 use lib.Dec.{eqb, leb}
 use borrow.Author.Tests.{eqb-true, eq-eqb, leb-false}
 use Rattle.count.specs.Rule.{exhausted, forwardOnly}
-use Rattle.count.specs.Run.{Act, stay, uses, resize, act, actOf, Valid}
-use Rattle.count.specs.Machine.{seen, Machine, Acting, Sound}
+use Rattle.count.specs.Run.{Act, stay, uses, resize, close, act, actOf, Valid}
+use Rattle.count.specs.Machine.{seen, Machine, Acting}
 use Rattle.count.proofs.Openings.{opening-valid, forward-valid}
 use Rattle.count.proofs.Lifting.{length-after, view-gives}
 use Rattle.refusals.specs.Order.{_when_, first}
 use Rattle.refusals.proofs.Laws.{passed, off}
 use Rattle.nas_core.specs.declared.Core.{Core}
-use Rattle.nas_core.specs.Keyed.{wraps}
+use Rattle.nas_core.specs.Keyed.{wraps, awayFromNull}
 use Rattle.nas_core.specs.Verify.{fits, verifyOf}
 use Rattle.nas_5gs.specs.declared.Context.{Context}
 use Rattle.nas_5gs.specs.Places.{directionNo, bearerNo, placeOf, recordAt, nextAt, faultOf}
 use Rattle.nas_5gs.specs.Seal.{sealRefusals, sealRefusal, opaqueRefusals, opaqueRefusal}
 use Rattle.nas_5gs.specs.Eps.{epsPlace, epsBearer, epsDirection, sealEpsRefusals, sealEpsRefusal}
 use Rattle.nas_5gs.specs.Containers.{containerPlace, noneLeft, s1ToN1Refusals, s1ToN1Refusal, verifyS1ToN1Refusals, verifyS1ToN1Refusal}
-use Rattle.promises.specs.Calls.{Call, setWindow, seal5gs, sealOpaque, open5gs, sealEps, openEps, makeN1ToS1, verifyN1ToS1, makeS1ToN1, verifyS1ToN1, gives, placeIn}
+use Rattle.promises.specs.Calls.{Call, setWindow, reselect, seal5gs, sealOpaque, open5gs, sealEps, openEps, makeN1ToS1, verifyN1ToS1, makeS1ToN1, verifyS1ToN1, gives, placeIn}
 use Rattle.promises.specs.Words.{SameKeys, recordOf}
 use Rattle.promise.proofs.Acts.{unless}
 use Rattle.promises.proofs.Shapes.{next, refusalOf, passing, does, acts}
@@ -68,6 +68,7 @@ module _ (P : Act → Type 0) where
 -- a call that uses the next COUNT has one
 abbrev pub NextThere : Call → Context → Type 0
 NextThere (setWindow n) x = Unit {0}
+NextThere (reselect i c ik ck) x = Unit {0}
 NextThere (seal5gs t d k inner out) x = nextAt x (placeOf d k) < exhausted
 NextThere (sealOpaque t d k inner out) x = nextAt x (placeOf d k) < exhausted
 NextThere (open5gs d k m out) x = Unit {0}
@@ -81,6 +82,7 @@ NextThere (verifyS1ToN1 v) x = nextAt x containerPlace < exhausted
 pub next-there : (k : Call) (x : Context) → refusalOf k x ≡ 0 → NextThere k x
 unfolding sealRefusal opaqueRefusal sealEpsRefusal s1ToN1Refusal verifyS1ToN1Refusal
 next-there (setWindow n) x e = tt
+next-there (reselect i c ik ck) x e = tt
 next-there (seal5gs t d k inner out) x e =
     left (sealRefusals x t (placeOf d k) (directionNo d) inner (length out)) 7 (nextAt x (placeOf d k)) e refl
 next-there (sealOpaque t d k inner out) x e = left (opaqueRefusals x t (placeOf d k) inner (length out)) 4 (nextAt x (placeOf d k)) e refl
@@ -103,8 +105,14 @@ module _ (x : Context) (guarded : wraps (x .core) ≡ false) where
   octet-valid : (p s : ℕ) → Valid (actOf (wraps (x .core)) (forwardOnly 8 (wraps (x .core)) (λ c. true) (recordAt x p) s)) (recordOf p x)
   octet-valid p s = rw guarded (forward-valid 8 (λ c. true) (recordOf p x) s)
 
+  -- from non-null integrity nothing is closed
+  reselect-valid : (i : ℕ) → Valid (cond (awayFromNull (x .core .integrity) i) close stay) (recordOf 4 x)
+  unfolding awayFromNull wraps
+  reselect-valid i = rw guarded tt
+
   passing-valid : (k : Call) → NextThere k x → Valid (passing k x) (recordOf (placeIn k) x)
   passing-valid (setWindow n) h = tt
+  passing-valid (reselect i c ik ck) h = reselect-valid i
   passing-valid (seal5gs t d k inner out) h = next-valid (placeOf d k) h
   passing-valid (sealOpaque t d k inner out) h = next-valid (placeOf d k) h
   passing-valid (open5gs d k m out) h = verify-valid (placeOf d k) (bearerNo k) (directionNo d) 2 m
@@ -136,6 +144,7 @@ seen-own : (p : ℕ) (a : Act) → seen p p a ≡ a
 seen-own p stay = refl
 seen-own p (uses w c) = rw (eq-eqb p p refl)
 seen-own p (resize n) = refl
+seen-own p close = refl
 
 -- and its own record
 pub own-after : (k : Call) (x : Context) → Four x → placeIn k < 4 → recordOf (placeIn k) (gives k x .context) ≡ act (does k x) (recordOf (placeIn k) x)
@@ -145,17 +154,3 @@ own-after k x four on =
 pub stays-four : (k : Call) (x : Context) → Four x → Four (gives k x .context)
 stays-four k x four =
     ap length (acts k x four .records-after) ∙ length-after 0 (placeIn k) (x .core .size) (x .records) (does k x) ∙ four
-
-stays-good : (k : Call) (x : Context) → Good x → Good (gives k x .context)
-unfolding wraps
-stays-good k x good =
-    let ki = acts k x (good .four) .keys-after .integrity in
-    record { four = stays-four k x (good .four); guarded = rw (← ki) (good .guarded) }
-
-pub sound : Sound machine Good
-sound =
-    record {
-      acting = record { size-after = λ k x good. acts k x (good .four) .size-after; records-after = λ k x good. acts k x (good .four) .records-after };
-      stays = stays-good;
-      valid = λ k x good. does-valid x (good .guarded) k;
-    }

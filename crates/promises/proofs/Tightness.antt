@@ -14,7 +14,7 @@ use Rattle.algorithms.specs.Codes.{isBuilt}
 use Rattle.count.specs.declared.Record.{Record}
 use Rattle.count.specs.declared.Candidate.the-variants.{At}
 use Rattle.count.specs.Rule.{forwardOf, lateOf, useForward, resizeOf}
-use Rattle.count.specs.Run.{State, Act, stay, uses, forward, late as lateUse, round, resize, act, used, Valid, In, NoneTwice}
+use Rattle.count.specs.Run.{State, Act, stay, uses, forward, late as lateUse, round, resize, close, act, used, Valid, In, NoneTwice}
 use Rattle.count.proofs.Distance.{distance-ends}
 use Rattle.count.proofs.Candidates.{clash, forward-found, at-open, late-found}
 use Rattle.count.proofs.Law.{to-clear}
@@ -38,10 +38,10 @@ use Rattle.nas_5gs.specs.Places.{placeOf, recordAt, nextAt}
 use Rattle.nas_5gs.specs.Leaves.{Leaves, leaves, Values, changeValues, useValues, openValues, epsOpenValues, octetValues}
 use Rattle.nas_5gs.specs.Changes.{contextWith, resized, newOf}
 use Rattle.nas_5gs.specs.Envelope.{envelope}
-use Rattle.promises.specs.Calls.{Call, setWindow, seal5gs, sealOpaque, open5gs, sealEps, openEps, makeN1ToS1, verifyN1ToS1, makeS1ToN1, verifyS1ToN1, Any, call, reselect, Making, Outcome, outcome, gives, givesAny, makes, usedBy, contextAfter, countsUsed}
+use Rattle.promises.specs.Calls.{Call, setWindow, seal5gs, sealOpaque, open5gs, sealEps, openEps, makeN1ToS1, verifyN1ToS1, makeS1ToN1, verifyS1ToN1, reselect, Making, Outcome, outcome, gives, makes, usedBy, contextAfter, countsUsed}
 use Rattle.promises.specs.Words.{recordOf, TakenAs}
 use Rattle.promises.specs.Demand2.{Estimates}
-use Rattle.promises.specs.Demand3.{Fresh, StillOpen, Opens, Keeps}
+use Rattle.promises.specs.Demand3.{fresh as begun, NeverTo, Demand3, Fresh, StillOpen, Opens, Keeps}
 use Rattle.promises.specs.Tightness.{AnswerOf, Meets, OnlyOne, RefusesAll, OpensAsNext, LeavesStill, Invents, NeverLate, AsInP6, p6Calls, Tightness}
 use Rattle.promise.proofs.Acts.{same-keys}
 use Rattle.promises.proofs.Shapes.{does, acts}
@@ -109,18 +109,18 @@ one-used = one-left useValues useRead use-back
 one-changed : (o : Outcome) (l l′ : Leaves ChangeAnswer) → outcome changeValues l ≡ o → outcome changeValues l′ ≡ o → l ≡ l′
 one-changed = one-left changeValues changeRead change-back
 
-one-only : (k : Any) (x : Context) (l l′ : Leaves (AnswerOf k)) → Meets k x l → Meets k x l′ → l ≡ l′
-one-only (call (setWindow n)) x = one-changed (gives (setWindow n) x)
-one-only (call (seal5gs t d k inner out)) x = one-used (gives (seal5gs t d k inner out) x)
-one-only (call (sealOpaque t d k inner out)) x = one-used (gives (sealOpaque t d k inner out) x)
-one-only (call (open5gs d k m out)) x = one-left openValues openRead open-back (gives (open5gs d k m out) x)
-one-only (call (sealEps inner out)) x = one-used (gives (sealEps inner out) x)
-one-only (call (openEps m out)) x = one-left epsOpenValues epsRead eps-back (gives (openEps m out) x)
-one-only (call makeN1ToS1) x = one-left octetValues octetRead octet-back (gives makeN1ToS1 x)
-one-only (call (verifyN1ToS1 s)) x = one-used (gives (verifyN1ToS1 s) x)
-one-only (call (makeS1ToN1 ncc ngksi out)) x = one-used (gives (makeS1ToN1 ncc ngksi out) x)
-one-only (call (verifyS1ToN1 v)) x = one-used (gives (verifyS1ToN1 v) x)
-one-only (reselect i c ik ck) x = one-changed (givesAny (reselect i c ik ck) x)
+one-only : (k : Call) (x : Context) (l l′ : Leaves (AnswerOf k)) → Meets k x l → Meets k x l′ → l ≡ l′
+one-only (setWindow n) x = one-changed (gives (setWindow n) x)
+one-only (seal5gs t d k inner out) x = one-used (gives (seal5gs t d k inner out) x)
+one-only (sealOpaque t d k inner out) x = one-used (gives (sealOpaque t d k inner out) x)
+one-only (open5gs d k m out) x = one-left openValues openRead open-back (gives (open5gs d k m out) x)
+one-only (sealEps inner out) x = one-used (gives (sealEps inner out) x)
+one-only (openEps m out) x = one-left epsOpenValues epsRead eps-back (gives (openEps m out) x)
+one-only makeN1ToS1 x = one-left octetValues octetRead octet-back (gives makeN1ToS1 x)
+one-only (verifyN1ToS1 s) x = one-used (gives (verifyN1ToS1 s) x)
+one-only (makeS1ToN1 ncc ngksi out) x = one-used (gives (makeS1ToN1 ncc ngksi out) x)
+one-only (verifyS1ToN1 v) x = one-used (gives (verifyS1ToN1 v) x)
+one-only (reselect i c ik ck) x = one-changed (gives (reselect i c ik ck) x)
 
 pub only-one : OnlyOne
 only-one = record { calls = one-only; makings = λ m. one-changed (makes m) }
@@ -146,18 +146,38 @@ message c = envelope (x .core) 1 c 1 0 one
 abbrev opening : ℕ → Call
 opening c = open5gs Uplink ThreeGpp (message c) one
 
+-- calls none of which is a reselection
+abbrev Plain : List Call → Type 0
+Plain [] = Unit {0}
+Plain (k ∷ ks) = ((i c : ℕ) (ik ck : List ℕ) → k ≡ reselect i c ik ck → ⊥) × Plain ks
+
+plain-never : (G : Call → Context → Outcome) (P : ℕ → Type 0) (x : Context) (ks : List Call) → Plain ks → NeverTo G P x ks
+plain-never G P x [] h = tt
+plain-never G P x (k ∷ ks) h = ((λ i c ik ck e q s. h .0 i c ik ck e), plain-never G P x ks (h .1))
+
+open-plain : (m out : List ℕ) (i c : ℕ) (ik ck : List ℕ) → open5gs Uplink ThreeGpp m out ≡ reselect i c ik ck → ⊥
+open-plain m out i c ik ck e = let z : _≡_ {A = ℕ} 0 1 = cc in omega arith
+
+window-plain : Plain (setWindow 8 ∷ [])
+window-plain = ((λ i c ik ck e. let z : _≡_ {A = ℕ} 0 1 = cc in omega arith), tt)
+
 module _ (G : Call → Context → Outcome) (keeps : Keeps G) where
-  opens : (ks : List Call) (c : ℕ) → c < 256
+  -- demand 3, after calls without a reselection
+  kept : (ks : List Call) → Plain ks → Demand3 G x ks
+  kept ks h = keeps x (begun fresh) ks (plain-never G (λ i. i ≡ 0) x ks h)
+
+  opens : (ks : List Call) → Plain ks → (c : ℕ) → c < 256
       → Opens G 0 x ks (λ c′. fits (contextAfter G x ks .core) c′ 1 0 2 (message c) ≡ true) (G (opening c) (contextAfter G x ks)) c one one
-  opens ks c h = keeps x fresh ks .opens Uplink ThreeGpp (x .core) 1 c one one (same-keys (x .core)) (omega arith) (omega arith) (omega arith) (omega arith) (omega arith) (omega arith)
+  opens ks plain c h =
+      kept ks plain .opens Uplink ThreeGpp (x .core) 1 c one one (kept ks plain .keys (plain-never G (λ i. Unit {0}) x ks plain)) (omega arith) (omega arith) (omega arith) (omega arith) (omega arith) (omega arith)
 
   -- where nothing lies below next, a COUNT ahead is taken
-  taken : (ks : List Call) (c : ℕ) → c < 256 → nextAt (contextAfter G x ks) 0 ≡ 0 → ((c′ : ℕ) → StillOpen G 0 x ks c′ → ⊥)
+  taken : (ks : List Call) → Plain ks → (c : ℕ) → c < 256 → nextAt (contextAfter G x ks) 0 ≡ 0 → ((c′ : ℕ) → StillOpen G 0 x ks c′ → ⊥)
       → TakenAs (G (opening c) (contextAfter G x ks)) c one one
-  taken ks c h n none = opens ks c h .exactly .1 (inr ((omega arith, omega arith), λ c′ s q f. none c′ s))
+  taken ks plain c h n none = opens ks plain c h .exactly .1 (inr ((omega arith, omega arith), λ c′ s q f. none c′ s))
 
   taken-first : (c : ℕ) → c < 256 → TakenAs (G (opening c) x) c one one
-  taken-first c h = taken [] c h refl (λ c′ s. s .1)
+  taken-first c h = taken [] tt c h refl (λ c′ s. s .1)
 
   refused : RefusesAll G → ⊥
   refused r = clash (taken-first 0 (omega arith) .uses) (r x Uplink ThreeGpp (message 0) one)
@@ -175,9 +195,9 @@ module _ (G : Call → Context → Outcome) (keeps : Keeps G) where
       let e : contextAfter G x (opening 0 ∷ []) ≡ x = r x Uplink ThreeGpp (message 0) one in
       let n : nextAt (contextAfter G x (opening 0 ∷ [])) 0 ≡ 0 = ap (λ (y : Context). nextAt y 0) e in
       let a = used-at [] 0 (taken-first 0 (omega arith)) in
-      let b = used-at (opening 0 ∷ []) 0 (taken (opening 0 ∷ []) 0 (omega arith) n (λ c s. let w = s .1 .0 .under in omega arith)) in
+      let b = used-at (opening 0 ∷ []) 0 (taken (opening 0 ∷ []) (open-plain (message 0) one, tt) 0 (omega arith) n (λ c s. let w = s .1 .0 .under in omega arith)) in
       let l : countsUsed G 0 x again ≡ 0 ∷ 0 ∷ [] = rw (a, b) in
-      let t : NoneTwice (0 ∷ 0 ∷ []) = subst NoneTwice l (keeps x fresh again .once Uplink ThreeGpp) in
+      let t : NoneTwice (0 ∷ 0 ∷ []) = subst NoneTwice l (kept again (open-plain (message 0) one, (open-plain (message 0) one, tt)) .once Uplink ThreeGpp) in
       t .0 (inl refl)
 
   -- P6: window 8, the message for COUNT 5, then the one for COUNT 3
@@ -188,11 +208,11 @@ module _ (G : Call → Context → Outcome) (keeps : Keeps G) where
   late s r =
       let w = s .sized x fresh in
       let n : nextAt (contextAfter G x (setWindow 8 ∷ [])) 0 ≡ 0 = w .0 in
-      let t = taken (setWindow 8 ∷ []) 5 (omega arith) n (λ c h. let u = h .1 .0 .under in omega arith) in
+      let t = taken (setWindow 8 ∷ []) window-plain 5 (omega arith) n (λ c h. let u = h .1 .0 .under in omega arith) in
       let m = s .moved x fresh (message 5) one (t .uses) (t .count) in
       let l : countsUsed G 0 x p6 ≡ 5 ∷ [] = rw (used-at (setWindow 8 ∷ []) 5 t) in
       let unused : In 3 (countsUsed G 0 x p6) → ⊥ = λ i. not-five (subst (In 3) l i) in
-      let e = opens p6 3 (omega arith) .exactly .1 (inl (unused, (record { under = omega arith; near = omega arith }, inl (omega arith, omega arith)))) in
+      let e = opens p6 (open-plain (message 5) one, window-plain) 3 (omega arith) .exactly .1 (inl (unused, (record { under = omega arith; near = omega arith }, inl (omega arith, omega arith)))) in
       let q = r x fresh (message 3) one (e .uses) in
       omega (arith, e .count, m .0)
     where
@@ -235,6 +255,7 @@ used-five (uses forward c) s v e n = let q : c ≡ 5 = cc in (omega arith, refl)
 used-five (uses lateUse c) s v e n = let w = to-clear s c v .within .under in absurd (omega arith)
 used-five (uses round c) s v e n = absurd v
 used-five (resize m) s v e n = let z : _≡_ {A = ℕ} 0 1 = cc in absurd (omega arith)
+used-five close s v e n = absurd v
 
 moved : (x : Context) → Fresh x → (m out : List ℕ)
     → let o = gives (open5gs Uplink ThreeGpp m out) (gives (setWindow 8) x .context) in
@@ -243,7 +264,7 @@ moved x f m out u e =
     let y = gives (setWindow 8) x .context in
     let k = open5gs Uplink ThreeGpp m out in
     let s = started x f in
-    let g = guarded-now x (s .beginning) (setWindow 8 ∷ []) .good in
+    let g = guarded-now x (s .beginning) (setWindow 8 ∷ []) (plain-never gives (λ i. i ≡ 0) x (setWindow 8 ∷ []) window-plain) .good in
     let w = sized x f in
     let c : used (does k y) ≡ 5 ∷ [] = sym (acts k y (g .four) .counts) ∙ rw (u, e) in
     let t = used-five (does k y) (recordOf 0 y) (does-valid y (g .guarded) k) c (w .0) in
@@ -260,7 +281,8 @@ module _ (x : Context) (f : Fresh x) where
   five-taken : TakenAs (gives five wide) 5 one one
   five-taken =
       let n = sized x f .0 in
-      keeps x f (setWindow 8 ∷ []) .opens Uplink ThreeGpp (x .core) 1 5 one one (same-keys (x .core)) (omega arith) (omega arith) (omega arith) (omega arith) (omega arith) (omega arith)
+      let d = keeps x (begun f) (setWindow 8 ∷ []) (plain-never gives (λ i. i ≡ 0) x (setWindow 8 ∷ []) window-plain) in
+      d .opens Uplink ThreeGpp (x .core) 1 5 one one (d .keys (plain-never gives (λ i. Unit {0}) x (setWindow 8 ∷ []) window-plain)) (omega arith) (omega arith) (omega arith) (omega arith) (omega arith) (omega arith)
       .exactly .1 (inr ((omega arith, omega arith), λ c s q h. let w = s .1 .0 .under in omega arith))
 
   p6-counts : countsUsed gives 0 x (p6Calls x) ≡ 5 ∷ []

@@ -17,10 +17,12 @@ use Rattle.nas_5gs.specs.Containers.{containerPlace, n1ToS1Of, verifyN1ToS1Of, 
 use Rattle.promise.specs.Outcomes.{Outcome as OutcomeOf}
 pub use Rattle.promise.specs.Outcomes.{outcome, usedBy}
 
--- The calls on a context, "any calls but restore and reselection". The last argument of those that write is the lent output as it was.
+-- The calls on a context. The last argument of those that write is the lent output as it was.
 pub data Call : Type 0 where
   -- the new size
   setWindow : ℕ → Call
+  -- codes for integrity and ciphering, their keys
+  reselect : ℕ → ℕ → List ℕ → List ℕ → Call
   -- header type, direction, connection, inner octets
   seal5gs sealOpaque : ℕ → Direction → Connection → List ℕ → List ℕ → Call
   -- direction, connection, message
@@ -40,11 +42,6 @@ pub data Making : Type 0 where
   create : ℕ → ℕ → List ℕ → List ℕ → Making
   restore : ℕ → ℕ → List ℕ → List ℕ → List ℕ → Making
 
--- Every call on a context: those, and reselection with new codes and keys.
-pub data Any : Type 0 where
-  call : Call → Any
-  reselect : ℕ → ℕ → List ℕ → List ℕ → Any
-
 -- The calls that read a number of a context, and hand back none.
 pub data Reading : Type 0 where
   nextCount : Direction → Connection → Reading
@@ -55,6 +52,7 @@ Outcome = OutcomeOf Context
 
 abbrev pub gives : Call → Context → Outcome
 gives (setWindow n) x = outcome changeValues (windowOf x n)
+gives (reselect i c ik ck) x = outcome changeValues (reselectOf x i c ik ck)
 gives (seal5gs t d k inner out) x = outcome useValues (sealOf x t d k inner out)
 gives (sealOpaque t d k inner out) x = outcome useValues (sealOpaqueOf x t d k inner out)
 gives (open5gs d k m out) x = outcome openValues (openOf x d k m out)
@@ -64,10 +62,6 @@ gives makeN1ToS1 x = outcome octetValues (n1ToS1Of x)
 gives (verifyN1ToS1 s) x = outcome useValues (verifyN1ToS1Of x s)
 gives (makeS1ToN1 ncc ngksi out) x = outcome useValues (s1ToN1Of x ncc ngksi out)
 gives (verifyS1ToN1 v) x = outcome useValues (verifyS1ToN1Of x v)
-
-abbrev pub givesAny : Any → Context → Outcome
-givesAny (call k) x = gives k x
-givesAny (reselect i c ik ck) x = outcome changeValues (reselectOf x i c ik ck)
 
 abbrev pub makes : Making → Outcome
 makes (create i c ik ck) = outcome changeValues (newOf i c ik ck)
@@ -82,6 +76,7 @@ reads ciphering x = x .core .ciphering
 -- the output that is lent
 abbrev pub lent : Call → List ℕ
 lent (setWindow n) = []
+lent (reselect i c ik ck) = []
 lent (seal5gs t d k inner out) = out
 lent (sealOpaque t d k inner out) = out
 lent (open5gs d k m out) = out
@@ -92,13 +87,10 @@ lent (verifyN1ToS1 s) = []
 lent (makeS1ToN1 ncc ngksi out) = out
 lent (verifyS1ToN1 v) = []
 
-abbrev pub lentAny : Any → List ℕ
-lentAny (call k) = lent k
-lentAny (reselect i c ik ck) = []
-
--- The place of the record that a call works on: 0 to 3, and 4, no record, for the window size, which is of all four.
+-- The place of the record that a call works on: 0 to 3, and 4, no record, for window size and reselection, which are of all four.
 abbrev pub placeIn : Call → ℕ
 placeIn (setWindow n) = 4
+placeIn (reselect i c ik ck) = 4
 placeIn (seal5gs t d k inner out) = placeOf d k
 placeIn (sealOpaque t d k inner out) = placeOf d k
 placeIn (open5gs d k m out) = placeOf d k

@@ -1,5 +1,5 @@
--- Demands 2 and 3 together: what a seal of z wrote, given to the matching open call of x after any calls from fresh, with the same keys and codes and room
--- enough. Where demand 3 makes it use that COUNT, the inner octets are handed over.
+-- Demands 2 and 3 together: what a seal of z wrote, given to the matching open call of x after any calls that demand 3 speaks of, with the same keys and codes
+-- and room enough. Where demand 3 makes it use that COUNT, the inner octets are handed over.
 use Prim.Native.Nat.{ℕ, _≤_}
 use mathlib.Core.Path.{_≡_}
 use mathlib.Core.Bool.{true}
@@ -13,7 +13,7 @@ use Rattle.nas_5gs.specs.Places.{directionNo, bearerNo, placeOf}
 use Rattle.nas_5gs.specs.Eps.{epsPlace, epsBearer, epsDirection}
 use Rattle.promises.specs.Calls.{Call, seal5gs, sealOpaque, open5gs, sealEps, openEps, gives, contextAfter}
 use Rattle.promises.specs.Words.{SameKeys, Succeeds, written, TakenAs}
-use Rattle.promises.specs.Demand3.{Fresh, Due}
+use Rattle.promises.specs.Demand3.{Begins, NeverToNull, Due}
 
 pub record Delivers (z x : Context) (ks : List Call) : Type 0 where
   pub seal : (t : ℕ) (d : Direction) (k : Connection) (inner out room : List ℕ)
@@ -40,4 +40,5 @@ pub record Delivers (z x : Context) (ks : List Call) : Type 0 where
       → Succeeds o × TakenAs o (s .values .count) inner room
 
 abbrev pub Delivery : Type 0
-Delivery = (z x : Context) → Fresh x → SameKeys (z .core) (x .core) → (ks : List Call) → Delivers z x ks
+Delivery =
+    (z x : Context) → Begins x → (ks : List Call) → NeverToNull gives x ks → SameKeys (z .core) (contextAfter gives x ks .core) → Delivers z x ks

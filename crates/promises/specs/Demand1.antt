@@ -1,6 +1,6 @@
 -- Demand 1: "Any bytes, any context, any buffer: every call ends with an answer. Bad input gets a numbered refusal. A refusal changes neither context nor
 -- buffer, but one: a message whose code is right and whose content is refused uses its COUNT and hands over its plaintext (refusal 8)."
--- That every call ends is in the contracts, which ask nothing of the input: each is an equation with the definition that `givesAny` or `makes` cites.
+-- That every call ends is in the contracts, which ask nothing of the input: each is an equation with the definition that `gives` or `makes` cites.
 use Prim.Native.Nat.{ℕ, _-_, _≤_, _<_}
 use mathlib.Core.Path.{_≡_}
 use mathlib.Core.Bool.{true}
@@ -17,15 +17,16 @@ use Rattle.nas_5gs.specs.declared.Direction.{Direction}
 use Rattle.nas_5gs.specs.declared.Connection.{Connection}
 use Rattle.nas_5gs.specs.Places.{directionNo, bearerNo, placeOf, faultOf, used, usedLate}
 use Rattle.nas_5gs.specs.Leaves.{over, refusal, success}
-use Rattle.nas_5gs.specs.Changes.{coreWith, contextWith, refusedContext, resized}
+use Rattle.nas_5gs.specs.Changes.{coreWith, contextWith, refusedContext, keptFor, resized}
 use Rattle.nas_5gs.specs.Envelope.{ciphers}
 use Rattle.nas_5gs.specs.Open.{typeOf}
 use Rattle.nas_5gs.specs.Eps.{epsPlace}
-use Rattle.promises.specs.Calls.{Call, setWindow, seal5gs, sealOpaque, open5gs, sealEps, openEps, makeN1ToS1, verifyN1ToS1, makeS1ToN1, verifyS1ToN1, Any, call, reselect, create, restore, Outcome, gives, givesAny, makes, lentAny, placeIn}
+use Rattle.promises.specs.Calls.{Call, setWindow, reselect, seal5gs, sealOpaque, open5gs, sealEps, openEps, makeN1ToS1, verifyN1ToS1, makeS1ToN1, verifyS1ToN1, create, restore, Outcome, gives, makes, lent, placeIn}
 
 -- "Order, 5GS open: under 7, 2, 3, exactly 7, 4, 5, 6 or 7, 8. EPS open: 1, 2, 4, 5, 6 or 7, 8. Seal: 9, 3, 10, 11, 4, 5, 6. .."
 abbrev pub ownNumbers : Call → List ℕ
 ownNumbers (setWindow n) = 14 ∷ []
+ownNumbers (reselect i c ik ck) = 13 ∷ []
 ownNumbers (seal5gs t d k inner out) = 9 ∷ 3 ∷ 10 ∷ 11 ∷ 4 ∷ 5 ∷ 6 ∷ []
 ownNumbers (sealOpaque t d k inner out) = 3 ∷ 4 ∷ 5 ∷ 6 ∷ []
 ownNumbers (open5gs d k m out) = 1 ∷ 2 ∷ 3 ∷ 4 ∷ 5 ∷ 6 ∷ 7 ∷ 8 ∷ []
@@ -37,28 +38,28 @@ ownNumbers (makeS1ToN1 ncc ngksi out) = 16 ∷ 5 ∷ 6 ∷ []
 ownNumbers (verifyS1ToN1 v) = 1 ∷ 4 ∷ 15 ∷ 6 ∷ 7 ∷ []
 
 -- a context may get 13, 14 or 16 before all else
-abbrev pub numbersOf : Any → List ℕ
-numbersOf (call k) = 13 ∷ 14 ∷ 16 ∷ ownNumbers k
-numbersOf (reselect i c ik ck) = 13 ∷ 14 ∷ 16 ∷ []
+abbrev pub numbersOf : Call → List ℕ
+numbersOf k = 13 ∷ 14 ∷ 16 ∷ ownNumbers k
 
 -- Of every call, on every context.
-pub record Demand1 (k : Any) (x : Context) : Type 0 where
+pub record Demand1 (k : Call) (x : Context) : Type 0 where
   -- "Bad input gets a numbered refusal"; 0 is a success
-  pub answers : (givesAny k x .values .number ≡ 0) ⊎ In (givesAny k x .values .number) (numbersOf k)
+  pub answers : (gives k x .values .number ≡ 0) ⊎ In (gives k x .values .number) (numbersOf k)
   -- "A refusal changes neither context nor buffer, but one"; "Other refusals answer their number alone"
-  pub kept : let o = givesAny k x in
+  pub kept : let o = gives k x in
       (o .values .number ≡ 0 → ⊥) → (o .values .number ≡ 8 → ⊥)
-      → (o .values ≡ refusal (o .values .number)) × (o .context ≡ x) × (o .output ≡ lentAny k)
+      → (o .values ≡ refusal (o .values .number)) × (o .context ≡ x) × (o .output ≡ lent k)
   -- "A success writes the front of the output and no octet after it"
-  pub behind : let o = givesAny k x in drop (o .values .wrote) (o .output) ≡ drop (o .values .wrote) (lentAny k)
-  pub room : length (givesAny k x .output) ≡ length (lentAny k)
-  pub within : givesAny k x .values .wrote ≤ length (lentAny k)
+  pub behind : let o = gives k x in drop (o .values .wrote) (o .output) ≡ drop (o .values .wrote) (lent k)
+  pub room : length (gives k x .output) ≡ length (lent k)
+  pub within : gives k x .values .wrote ≤ length (lent k)
   -- "A context that holds an unbuilt code, a size above 64 or a next COUNT above 16,777,216 gets 13, 14 or 16 before all else"
-  pub fault : (faultOf x ≡ 0 → ⊥) → givesAny k x .values ≡ refusal (faultOf x)
+  pub fault : (faultOf x ≡ 0 → ⊥) → gives k x .values ≡ refusal (faultOf x)
 
 -- "To use COUNT c forward makes next c + 1. Seals, forward opens and all four container calls do so. A late open uses c and leaves next as it is."
 abbrev pub MayBeLate : Call → Type 0
 MayBeLate (setWindow n) = ⊥
+MayBeLate (reselect i c ik ck) = ⊥
 MayBeLate (seal5gs t d k inner out) = ⊥
 MayBeLate (sealOpaque t d k inner out) = ⊥
 MayBeLate (open5gs d k m out) = Unit {0}
@@ -125,13 +126,13 @@ pub record Demand1Making : Type 0 where
   pub not-restored : (i c : ℕ) (ik ck next : List ℕ) → (Built i c → ⊥) → makes (restore i c ik ck next) ≡ refused 13 refusedContext
   pub over-restored : (i c : ℕ) (ik ck next : List ℕ) (p : ℕ) → Built i c → p < 4 → exhausted < getD next p 0
       → makes (restore i c ik ck next) ≡ refused 16 refusedContext
-  pub refuses : (k : Any) → givesAny k refusedContext .values ≡ refusal 13
+  pub refuses : (k : Call) → gives k refusedContext .values ≡ refusal 13
 
 -- ".. and reselection: 13. Window: 14.": of a context without fault, refused exactly then
 pub record Demand1Changes (x : Context) (faultless : faultOf x ≡ 0) : Type 0 where
-  -- "Reselection takes new codes and both new keys; next COUNTs, size and bits stay."
+  -- "Reselection takes new codes and both new keys; next COUNTs, size and bits stay", but that one away from null closes every late COUNT
   pub reselected : (i c : ℕ) (ik ck : List ℕ) → Built i c
-      → givesAny (reselect i c ik ck) x ≡ done (record { core = coreWith i c ik ck (x .core .size); records = x .records })
-  pub not-reselected : (i c : ℕ) (ik ck : List ℕ) → (Built i c → ⊥) → givesAny (reselect i c ik ck) x ≡ refused 13 x
+      → gives (reselect i c ik ck) x ≡ done (record { core = coreWith i c ik ck (x .core .size); records = keptFor x i .records })
+  pub not-reselected : (i c : ℕ) (ik ck : List ℕ) → (Built i c → ⊥) → gives (reselect i c ik ck) x ≡ refused 13 x
   pub sized : (n : ℕ) → n ≤ 64 → gives (setWindow n) x ≡ done (resized x n)
   pub not-sized : (n : ℕ) → 64 < n → gives (setWindow n) x ≡ refused 14 x

@@ -2,6 +2,8 @@
 -- twice. A non-empty message sealed for COUNT c on that record with the same keys and codes, given to the matching open call within limit and room,
 -- uses c and hands over its octets exactly when c is among the 256 COUNTs from the next one on, or was passed over, never used, and has lain inside the
 -- window ever since. One exception: a forward c whose code also fits a still open late COUNT with the same last octet is taken as that one."
+-- Request 4: "Demand 3 then also holds across reselections between non-null codes, and anew from each reselection away from null." So it is said of any calls
+-- but restore and reselection to null, and "the same keys and codes" are those that the context has when the message comes.
 use Prim.Native.Nat.{ℕ, _+_, _%_, _≤_, _<_}
 use mathlib.Core.Path.{_≡_}
 use mathlib.Core.Bool.{true}
@@ -11,6 +13,7 @@ use lib.ListN.{length}
 use Rattle.count.specs.Rule.{exhausted}
 use Rattle.count.specs.Run.{Within, In, NoneTwice}
 use Rattle.nas_core.specs.declared.Core.{Core}
+use Rattle.nas_core.specs.Keyed.{wraps}
 use Rattle.nas_core.specs.Refusals.{limit}
 use Rattle.nas_core.specs.Verify.{fits}
 use Rattle.nas_5gs.specs.declared.Context.{Context}
@@ -19,11 +22,11 @@ use Rattle.nas_5gs.specs.declared.Connection.{Connection}
 use Rattle.nas_5gs.specs.declared.ChangeAnswer.the-variants.{Done}
 use Rattle.nas_5gs.specs.Places.{directionNo, bearerNo, placeOf, nextAt}
 use Rattle.nas_5gs.specs.Leaves.{leaves}
-use Rattle.nas_5gs.specs.Changes.{newOf}
+use Rattle.nas_5gs.specs.Changes.{newOf, reselectOf}
 use Rattle.nas_5gs.specs.Envelope.{envelope}
 use Rattle.nas_5gs.specs.Eps.{epsPlace, epsBearer, epsDirection, epsMessage}
-use Rattle.promises.specs.Words.{SameKeys, recordOf, Ahead, TakenAs}
-use Rattle.promises.specs.Calls.{Call, open5gs, openEps, Outcome, contextAfter, countsUsed}
+use Rattle.promises.specs.Words.{SameKeys, recordOf, Ahead, Succeeds, TakenAs}
+use Rattle.promises.specs.Calls.{Call, reselect, open5gs, openEps, Outcome, contextAfter, countsUsed}
 
 -- "a fresh context with non-null integrity": a creation that is accepted
 pub record Fresh (x : Context) : Type 0 where
@@ -34,11 +37,39 @@ pub record Fresh (x : Context) : Type 0 where
   pub made : newOf integrity ciphering integrityKey cipheringKey ≡ leaves Done x []
   pub guarded : integrity ≡ 0 → ⊥
 
+-- "anew from each reselection away from null": a reselection that is accepted, of any context with integrity 0, to another code
+pub record Reselected (x : Context) : Type 0 where
+  pub before : Context
+  pub null : wraps (before .core) ≡ true
+  pub integrity : ℕ
+  pub ciphering : ℕ
+  pub integrityKey : List ℕ
+  pub cipheringKey : List ℕ
+  pub made : reselectOf before integrity ciphering integrityKey cipheringKey ≡ leaves Done x []
+  pub guarded : integrity ≡ 0 → ⊥
+
+-- where the demand begins
+pub data Begins (x : Context) : Type 0 where
+  fresh : Fresh x → Begins x
+  reselected : Reselected x → Begins x
+
 -- a call that took x to y passed c over: c was not below the next COUNT, and now lies below the highest one used
 abbrev pub PassedOver : ℕ → Context → Context → ℕ → Type 0
 PassedOver p x y c = (nextAt x p ≤ c) × (c + 1 < nextAt y p)
 
 module _ (G : Call → Context → Outcome) where
+  -- of some calls, none is a reselection to an integrity code that P names and succeeds: a refused one changes nothing
+  abbrev pub NeverTo : (ℕ → Type 0) → Context → List Call → Type 0
+  NeverTo P x [] = Unit {0}
+  NeverTo P x (k ∷ ks) =
+      ((i c : ℕ) (ik ck : List ℕ) → k ≡ reselect i c ik ck → P i → Succeeds (G k (contextAfter G x ks)) → ⊥) × NeverTo P x ks
+
+  abbrev pub NeverToNull : Context → List Call → Type 0
+  NeverToNull = NeverTo (λ i. i ≡ 0)
+
+  abbrev pub NeverReselected : Context → List Call → Type 0
+  NeverReselected = NeverTo (λ i. Unit {0})
+
   -- "was passed over .. and has lain inside the window ever since": inside it now, and passed over by the last call or so before it
   abbrev pub InsideSince : ℕ → Context → List Call → ℕ → Type 0
   InsideSince p x [] c = ⊥
@@ -67,21 +98,21 @@ module _ (G : Call → Context → Outcome) where
   pub record Demand3 (x : Context) (ks : List Call) : Type 0 where
     -- "on each direction and connection no COUNT is used twice"
     pub once : (d : Direction) (k : Connection) → NoneTwice (countsUsed G (placeOf d k) x ks)
-    -- the calls keep keys and codes
-    pub keys : SameKeys (x .core) (contextAfter G x ks .core)
+    -- the calls but reselection keep keys and codes
+    pub keys : NeverReselected x ks → SameKeys (x .core) (contextAfter G x ks .core)
     -- 5GS: y is the context that sealed the message, or any with the same keys and codes
     pub opens : (d : Direction) (k : Connection) (y : Core) (t c : ℕ) (inner out : List ℕ)
-        → SameKeys y (x .core) → 1 ≤ t → t ≤ 4 → c < exhausted → 1 ≤ length inner → length inner ≤ limit → length inner ≤ length out
         → let m = envelope y t c (bearerNo k) (directionNo d) inner in
         let now = contextAfter G x ks in
-        Opens (placeOf d k) x ks (λ c′. fits (now .core) c′ (bearerNo k) (directionNo d) 2 m ≡ true) (G (open5gs d k m out) now) c inner out
+        SameKeys y (now .core) → 1 ≤ t → t ≤ 4 → c < exhausted → 1 ≤ length inner → length inner ≤ limit → length inner ≤ length out
+        → Opens (placeOf d k) x ks (λ c′. fits (now .core) c′ (bearerNo k) (directionNo d) 2 m ≡ true) (G (open5gs d k m out) now) c inner out
     -- EPS, on the uplink 3GPP record
     pub opens-eps : (y : Core) (c : ℕ) (inner out : List ℕ)
-        → SameKeys y (x .core) → c < exhausted → 1 ≤ length inner → length inner ≤ limit → length inner ≤ length out
         → let m = epsMessage y c inner in
         let now = contextAfter G x ks in
-        Opens epsPlace x ks (λ c′. fits (now .core) c′ epsBearer epsDirection 1 m ≡ true) (G (openEps m out) now) c inner out
+        SameKeys y (now .core) → c < exhausted → 1 ≤ length inner → length inner ≤ limit → length inner ≤ length out
+        → Opens epsPlace x ks (λ c′. fits (now .core) c′ epsBearer epsDirection 1 m ≡ true) (G (openEps m out) now) c inner out
 
 -- the demand, of whatever gives the outcomes
 abbrev pub Keeps : (Call → Context → Outcome) → Type 0
-Keeps G = (x : Context) → Fresh x → (ks : List Call) → Demand3 G x ks
+Keeps G = (x : Context) → Begins x → (ks : List Call) → NeverToNull G x ks → Demand3 G x ks

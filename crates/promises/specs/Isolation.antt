@@ -9,7 +9,7 @@ use Rattle.nas_5gs.specs.declared.Connection.{Connection}
 use Rattle.nas_5gs.specs.Places.{placeOf, recordAt}
 use Rattle.promises.specs.Calls.{Call, gives, placeIn, contextAfter}
 
--- calls on records other than the one at p, none of them a new window size
+-- calls on records other than the one at p, none of them a new window size or a reselection
 abbrev pub Elsewhere : ℕ → List Call → Type 0
 Elsewhere p [] = Unit {0}
 Elsewhere p (k ∷ ks) = (placeIn k < 4) × (p ≡ placeIn k → ⊥) × Elsewhere p ks

@@ -2,7 +2,7 @@
 use mathlib.Core.Path.{_≡_}
 use Rattle.nas_5gs.specs.declared.Context.{Context}
 use Rattle.nas_5gs.specs.Places.{faultOf}
-use Rattle.promises.specs.Calls.{Call, Any, gives}
+use Rattle.promises.specs.Calls.{Call, gives}
 use Rattle.promises.specs.Demand1.{Demand1, Demand1Uses, Demand1Open, Demand1Making, Demand1Changes}
 use Rattle.promises.specs.Demand2.{Demand2}
 use Rattle.promises.specs.Demand3.{Keeps}
@@ -12,7 +12,7 @@ use Rattle.promises.specs.Isolation.{Apart, Isolation}
 use Rattle.promises.specs.Tightness.{OnlyOne, Tightness}
 
 pub record Promises : Type 1 where
-  pub demand1 : (k : Any) (x : Context) → Demand1 k x
+  pub demand1 : (k : Call) (x : Context) → Demand1 k x
   pub demand1-uses : (k : Call) (x : Context) → Demand1Uses k x
   pub demand1-open : (x : Context) → Demand1Open x
   pub demand1-making : Demand1Making

@@ -20,48 +20,48 @@ use Rattle.nas_5gs.specs.declared.EpsOpenAnswer.{EpsOpenAnswer}
 use Rattle.nas_5gs.specs.declared.OctetAnswer.{OctetAnswer}
 use Rattle.nas_5gs.specs.Leaves.{Leaves, Values, changeValues, useValues, openValues, epsOpenValues, octetValues}
 use Rattle.nas_5gs.specs.Envelope.{envelope}
-use Rattle.promises.specs.Calls.{Call, setWindow, seal5gs, sealOpaque, open5gs, sealEps, openEps, makeN1ToS1, verifyN1ToS1, makeS1ToN1, verifyS1ToN1, Any, call, reselect, Making, Outcome, outcome, gives, givesAny, makes, contextAfter}
+use Rattle.promises.specs.Calls.{Call, setWindow, seal5gs, sealOpaque, open5gs, sealEps, openEps, makeN1ToS1, verifyN1ToS1, makeS1ToN1, verifyS1ToN1, reselect, Making, Outcome, outcome, gives, makes, contextAfter}
 use Rattle.promises.specs.Words.{Uses}
 use Rattle.promises.specs.Demand2.{Estimates}
 use Rattle.promises.specs.Demand3.{Fresh, StillOpen, Keeps}
 
 -- "what a public function says, refusals too, determines the answer, the context and each lent buffer; show that no second answer fits".
 -- The answer of each call, as its function gives it, with document 01's values of it:
-abbrev pub AnswerOf : Any → Type 0
-AnswerOf (call (setWindow n)) = ChangeAnswer
-AnswerOf (call (seal5gs t d k inner out)) = UseAnswer
-AnswerOf (call (sealOpaque t d k inner out)) = UseAnswer
-AnswerOf (call (open5gs d k m out)) = OpenAnswer
-AnswerOf (call (sealEps inner out)) = UseAnswer
-AnswerOf (call (openEps m out)) = EpsOpenAnswer
-AnswerOf (call makeN1ToS1) = OctetAnswer
-AnswerOf (call (verifyN1ToS1 s)) = UseAnswer
-AnswerOf (call (makeS1ToN1 ncc ngksi out)) = UseAnswer
-AnswerOf (call (verifyS1ToN1 v)) = UseAnswer
+abbrev pub AnswerOf : Call → Type 0
+AnswerOf (setWindow n) = ChangeAnswer
+AnswerOf (seal5gs t d k inner out) = UseAnswer
+AnswerOf (sealOpaque t d k inner out) = UseAnswer
+AnswerOf (open5gs d k m out) = OpenAnswer
+AnswerOf (sealEps inner out) = UseAnswer
+AnswerOf (openEps m out) = EpsOpenAnswer
+AnswerOf makeN1ToS1 = OctetAnswer
+AnswerOf (verifyN1ToS1 s) = UseAnswer
+AnswerOf (makeS1ToN1 ncc ngksi out) = UseAnswer
+AnswerOf (verifyS1ToN1 v) = UseAnswer
 AnswerOf (reselect i c ik ck) = ChangeAnswer
 
-abbrev pub valuesOf : (k : Any) → AnswerOf k → Values
-valuesOf (call (setWindow n)) = changeValues
-valuesOf (call (seal5gs t d k inner out)) = useValues
-valuesOf (call (sealOpaque t d k inner out)) = useValues
-valuesOf (call (open5gs d k m out)) = openValues
-valuesOf (call (sealEps inner out)) = useValues
-valuesOf (call (openEps m out)) = epsOpenValues
-valuesOf (call makeN1ToS1) = octetValues
-valuesOf (call (verifyN1ToS1 s)) = useValues
-valuesOf (call (makeS1ToN1 ncc ngksi out)) = useValues
-valuesOf (call (verifyS1ToN1 v)) = useValues
+abbrev pub valuesOf : (k : Call) → AnswerOf k → Values
+valuesOf (setWindow n) = changeValues
+valuesOf (seal5gs t d k inner out) = useValues
+valuesOf (sealOpaque t d k inner out) = useValues
+valuesOf (open5gs d k m out) = openValues
+valuesOf (sealEps inner out) = useValues
+valuesOf (openEps m out) = epsOpenValues
+valuesOf makeN1ToS1 = octetValues
+valuesOf (verifyN1ToS1 s) = useValues
+valuesOf (makeS1ToN1 ncc ngksi out) = useValues
+valuesOf (verifyS1ToN1 v) = useValues
 valuesOf (reselect i c ik ck) = changeValues
 
 -- An implementation leaves an answer, a context and an output that meet the contract of the call (in crate covers, where each function is called).
-abbrev pub Meets : (k : Any) → Context → Leaves (AnswerOf k) → Type 0
-Meets k x l = outcome (valuesOf k) l ≡ givesAny k x
+abbrev pub Meets : (k : Call) → Context → Leaves (AnswerOf k) → Type 0
+Meets k x l = outcome (valuesOf k) l ≡ gives k x
 
 abbrev pub MeetsMaking : Making → Leaves ChangeAnswer → Type 0
 MeetsMaking m l = outcome changeValues l ≡ makes m
 
 pub record OnlyOne : Type 0 where
-  pub calls : (k : Any) (x : Context) (l l′ : Leaves (AnswerOf k)) → Meets k x l → Meets k x l′ → l ≡ l′
+  pub calls : (k : Call) (x : Context) (l l′ : Leaves (AnswerOf k)) → Meets k x l → Meets k x l′ → l ≡ l′
   pub makings : (m : Making) (l l′ : Leaves ChangeAnswer) → MeetsMaking m l → MeetsMaking m l′ → l ≡ l′
 
 -- what a 5GS open call of G answers

@@ -9,7 +9,7 @@ use borrow.Author.Tests.{ne-eqb}
 use Rattle.aes.specs.Field.{xTimes, times, timesBits, inverse, squares}
 use Rattle.aes.proofs.Tables.{same-table}
 use Rattle.aes.proofs.Field.{times-2}
-use Rattle.aes_proofs.specs.Field.{FieldFacts}
+use Rattle.aes_examples.specs.Field.{FieldFacts}
 
 one-or-none : (a : ℕ) → a < 256 → times a (inverse a) ≡ cond (eqb a 0) 0 1
 unfolding times timesBits xTimes inverse squares

@@ -22,7 +22,7 @@ use Rattle.aes.specs.Cipher.{
 use Rattle.aes.specs.Counter.{counter, keystream, ctrOf}
 use Rattle.aes.specs.Cmac.{shiftLeft, double, subkey1, subkey2, block, lastBlock, chain, cmacAt, cmacOf}
 use Rattle.aes.specs.Nas.{head, nea2Of, nia2Of}
-use Rattle.aes_proofs.specs.Examples.{Fips197, Sp800-38A, Sp800-38B-Subkeys, Sp800-38B-Codes, Ts33401}
+use Rattle.aes_examples.specs.Examples.{Fips197, Sp800-38A, Sp800-38B-Subkeys, Sp800-38B-Codes, Ts33401}
 
 pub fips197 : Fips197
 unfolding expandKey words nextWord turned rcon word xTimes sbox affine inverse squares times timesBits zipWith cipher rounds addRoundKey mixColumns shiftRows subBytes toState fromState

@@ -1,0 +1,14 @@
+use Rattle.aes.specs.Cmac.{subkey1}
+use borrow.Author.Needs.{needs}
+use Rattle.aes.proofs.cmac_mode.subkey.Statement.{statement}
+use Rattle.aes.proofs.cmac_mode.subkey.Tie as tie
+
+returns : tie.Need-returns
+unfolding subkey1
+returns c = rw (c .double .ensures, c .before .encrypt-with .ensures)
+
+pub subkey-spec : {M : Type 1} → statement M
+subkey-spec =
+    tie.close
+    (tie.spec
+    (λ c κs. search needs) (λ c κs. search needs) returns)

@@ -1,0 +1,170 @@
+// SP 800-38B: CMAC.
+ghost use mathlib.Core.Path.{_≡_};
+ghost use mathlib.Core.Bool.{cond};
+ghost use mathlib.Core.List.{_∷_, [], _++_};
+ghost use Prim.Native.Nat.{_+_, _-_, _*_, _/_, _%_, _^_, _<_};
+ghost use lib.ListN.{getD};
+ghost use Rattle.aes.specs.Octets.{sixteen, xor};
+ghost use Rattle.aes.specs.Field.{sboxTable};
+ghost use Rattle.aes.specs.Cipher.{cipher};
+ghost use Rattle.aes.specs.Cmac.{shiftLeft, double as doubleOf, subkey1, subkey2, cmacOf};
+use crate::cipher::encrypt_with;
+use crate::sbox::sbox_table;
+
+const R128: [u8; 16] = [0, 0, 0, 0, 0, 0, 0, 0, 0, 0, 0, 0, 0, 0, 0, 135];
+
+fn xor_block(a: [u8; 16], b: [u8; 16]) -> [u8; 16]
+    ensures { λ r. ⌜ r ≡ xor a b ⌝ }
+{
+    [
+        a[0] ^ b[0],
+        a[1] ^ b[1],
+        a[2] ^ b[2],
+        a[3] ^ b[3],
+        a[4] ^ b[4],
+        a[5] ^ b[5],
+        a[6] ^ b[6],
+        a[7] ^ b[7],
+        a[8] ^ b[8],
+        a[9] ^ b[9],
+        a[10] ^ b[10],
+        a[11] ^ b[11],
+        a[12] ^ b[12],
+        a[13] ^ b[13],
+        a[14] ^ b[14],
+        a[15] ^ b[15],
+    ]
+}
+
+fn shifted(a: u8, b: u8) -> u8
+    ensures { λ r. ⌜ r ≡ a % 128 * 2 + b / 128 ⌝ }
+{
+    a % 128 * 2 + b / 128
+}
+
+fn shift_left(x: [u8; 16]) -> [u8; 16]
+    ensures { λ r. ⌜ r ≡ shiftLeft x ⌝ }
+{
+    [
+        shifted(x[0], x[1]),
+        shifted(x[1], x[2]),
+        shifted(x[2], x[3]),
+        shifted(x[3], x[4]),
+        shifted(x[4], x[5]),
+        shifted(x[5], x[6]),
+        shifted(x[6], x[7]),
+        shifted(x[7], x[8]),
+        shifted(x[8], x[9]),
+        shifted(x[9], x[10]),
+        shifted(x[10], x[11]),
+        shifted(x[11], x[12]),
+        shifted(x[12], x[13]),
+        shifted(x[13], x[14]),
+        shifted(x[14], x[15]),
+        shifted(x[15], 0),
+    ]
+}
+
+fn double(x: [u8; 16]) -> [u8; 16]
+    ensures { λ r. ⌜ r ≡ doubleOf x ⌝ }
+{
+    if x[0] < 128 {
+        shift_left(x)
+    } else {
+        xor_block(shift_left(x), R128)
+    }
+}
+
+// Octet i of the head and the message with the padding's bit 1 behind them, and zeros from there on.
+fn octet_at(head: &[u8], message: &[u8], i: usize) -> u8
+    ensures { λ r. ⌜ r ≡ getD (now (head .entry) ++ now (message .entry) ++ (128 ∷ [])) i 0 ⌝ }
+{
+    if i < head.len() {
+        head[i]
+    } else {
+        let k = i - head.len();
+        if k < message.len() {
+            message[k]
+        } else {
+            if k == message.len() { 128 } else { 0 }
+        }
+    }
+}
+
+fn block_at(head: &[u8], message: &[u8], k: usize) -> [u8; 16]
+    requires { ⌜ k + 15 < 2 ^ 64 ⌝ }
+    ensures { λ r. ⌜ r ≡ sixteen (λ j. getD (now (head .entry) ++ now (message .entry) ++ (128 ∷ [])) (k + j) 0) ⌝ }
+{
+    [
+        octet_at(head, message, k),
+        octet_at(head, message, k + 1),
+        octet_at(head, message, k + 2),
+        octet_at(head, message, k + 3),
+        octet_at(head, message, k + 4),
+        octet_at(head, message, k + 5),
+        octet_at(head, message, k + 6),
+        octet_at(head, message, k + 7),
+        octet_at(head, message, k + 8),
+        octet_at(head, message, k + 9),
+        octet_at(head, message, k + 10),
+        octet_at(head, message, k + 11),
+        octet_at(head, message, k + 12),
+        octet_at(head, message, k + 13),
+        octet_at(head, message, k + 14),
+        octet_at(head, message, k + 15),
+    ]
+}
+
+fn subkey(table: &[u8; 256], w: &[u8; 176]) -> [u8; 16]
+    requires { ⌜ now table ≡ sboxTable ⌝ }
+    ensures { λ r. ⌜ r ≡ subkey1 (cipher (now (w .entry))) ⌝ }
+{
+    double(encrypt_with(table, w, [0u8; 16]))
+}
+
+// The last block with the subkey for a whole one, or for one that was padded.
+fn keyed_block(table: &[u8; 256], w: &[u8; 176], b: [u8; 16], whole: bool) -> [u8; 16]
+    requires { ⌜ now table ≡ sboxTable ⌝ }
+    ensures { λ r. ⌜ r ≡ cond whole (xor (subkey1 (cipher (now (w .entry)))) b) (xor (subkey2 (cipher (now (w .entry)))) b) ⌝ }
+{
+    let k = subkey(table, w);
+    if whole {
+        xor_block(k, b)
+    } else {
+        xor_block(double(k), b)
+    }
+}
+
+// How many blocks come before the last one.
+fn blocks_before_last(octets: usize) -> usize
+    ensures { λ r. ⌜ r ≡ (octets - 1) / 16 ⌝ }
+{
+    if octets == 0 { 0 } else { (octets - 1) / 16 }
+}
+
+pub fn cmac_with(table: &[u8; 256], w: &[u8; 176], head: &[u8], message: &[u8]) -> [u8; 16]
+    requires { ⌜ now table ≡ sboxTable ⌝ }
+    ensures { λ r. ⌜ r ≡ cmacOf (cipher (now (w .entry))) (now (head .entry) ++ now (message .entry)) ⌝ }
+{
+    let length = head.len() + message.len();
+    let n = blocks_before_last(length);
+    let mut x = [0u8; 16];
+    let mut done = 0;
+    while done < n {
+        let b = block_at(head, message, done * 16);
+        let next = encrypt_with(table, w, xor_block(x, b));
+        x = next;
+        done += 1;
+    }
+    let b = block_at(head, message, n * 16);
+    let last = keyed_block(table, w, b, length - n * 16 == 16);
+    encrypt_with(table, w, xor_block(x, last))
+}
+
+// The CMAC of a head and a message behind it, under an expanded key.
+pub fn cmac(w: &[u8; 176], head: &[u8], message: &[u8]) -> [u8; 16]
+    ensures { λ r. ⌜ r ≡ cmacOf (cipher (now (w .entry))) (now (head .entry) ++ now (message .entry)) ⌝ }
+{
+    let table = sbox_table();
+    cmac_with(&table, w, head, message)
+}

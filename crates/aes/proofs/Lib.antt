@@ -1,6 +1,7 @@
 pub mod Tables
 pub mod Lists
 pub mod Field
+pub mod Words
 pub mod Keys
 pub mod Lengths
 pub mod Stream

@@ -1,41 +1,54 @@
-// FIPS 197 5.1.3: the mixing of columns.
+// FIPS 197 5.1.3: the mixing of columns, a column as one word. Its first octet is the lowest of the word.
 ghost use mathlib.Core.Path.{_≡_};
-ghost use lib.Bits.{bitXor};
+ghost use mathlib.Core.List.{_∷_, []};
+ghost use Prim.Native.Nat.{_+_, _/_, _%_, _^_};
 ghost use Rattle.aes.specs.Octets.{four};
 ghost use Rattle.aes.specs.Field.{times};
 ghost use Rattle.aes.specs.Cipher.{mixed, mixColumns};
 
-fn times_2(b: u8) -> u8
-    ensures { λ r. ⌜ r ≡ times 2 b ⌝ }
+fn joined(a: u8, b: u8, c: u8, d: u8) -> u32
+    ensures { λ r. ⌜ four (λ i. r / 256 ^ i % 256) ≡ a ∷ b ∷ c ∷ d ∷ [] ⌝ }
 {
-    if b < 128 { b * 2 } else { ((b - 128) * 2) ^ 27 }
+    a as u32 + b as u32 * 0x100 + c as u32 * 0x1_0000 + d as u32 * 0x100_0000
 }
 
-fn times_3(b: u8) -> u8
-    ensures { λ r. ⌜ r ≡ times 3 b ⌝ }
+fn parted(w: u32) -> [u8; 4]
+    ensures { λ r. ⌜ r ≡ four (λ i. w / 256 ^ i % 256) ⌝ }
 {
-    times_2(b) ^ b
+    [
+        (w % 256) as u8,
+        (w / 0x100 % 256) as u8,
+        (w / 0x1_0000 % 256) as u8,
+        (w / 0x100_0000 % 256) as u8,
+    ]
 }
 
-fn mix_octet(a: u8, b: u8, c: u8, d: u8) -> u8
-    ensures { λ r. ⌜ r ≡ bitXor (bitXor (bitXor (times 2 a) (times 3 b)) c) d ⌝ }
+// All four products by 2 at once: seven bits move up, and the eighth brings in the field's polynomial.
+fn doubled(w: u32) -> u32
+    ensures { λ r. ⌜ four (λ i. r / 256 ^ i % 256) ≡ four (λ i. times 2 (w / 256 ^ i % 256)) ⌝ }
 {
-    times_2(a) ^ times_3(b) ^ c ^ d
+    ((w & 0x7f7f_7f7f) * 2) ^ ((w / 128 & 0x0101_0101) * 27)
+}
+
+// At the place of each octet the next one.
+fn rotated(w: u32) -> u32
+    ensures { λ r. ⌜ four (λ i. r / 256 ^ i % 256) ≡ four (λ i. w / 256 ^ ((i + 1) % 4) % 256) ⌝ }
+{
+    w / 0x100 + w % 0x100 * 0x100_0000
+}
+
+fn mix_word(w: u32) -> u32
+    ensures { λ r. ⌜ four (λ i. r / 256 ^ i % 256) ≡ four (mixed (four (λ i. w / 256 ^ i % 256))) ⌝ }
+{
+    let twice = doubled(w);
+    let third = rotated(rotated(w));
+    twice ^ rotated(twice ^ w) ^ third ^ rotated(third)
 }
 
 fn mix_column(t: [u8; 4]) -> [u8; 4]
     ensures { λ r. ⌜ r ≡ four (mixed t) ⌝ }
 {
-    let a = t[0];
-    let b = t[1];
-    let c = t[2];
-    let d = t[3];
-    [
-        mix_octet(a, b, c, d),
-        mix_octet(b, c, d, a),
-        mix_octet(c, d, a, b),
-        mix_octet(d, a, b, c),
-    ]
+    parted(mix_word(joined(t[0], t[1], t[2], t[3])))
 }
 
 pub fn mix_columns(s: [[u8; 4]; 4]) -> [[u8; 4]; 4]

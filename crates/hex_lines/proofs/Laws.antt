@@ -9,7 +9,7 @@ use native.Mathlib.Omega.{arith}
 use borrow.Author.Tests.{lt-ltb, le-ltb, le-leb, lt-leb, eq-eqb, ne-eqb}
 use lib.Dec.{leb}
 use lib.ListN.{length, getD, take, drop, set, drop-of-length-le, length-drop}
-use lib.Seq.{drop-cons, take-all, paste, paste-suc, length-paste}
+use lib.Seq.{drop-cons, take-all, take-nil, drop-length, paste, paste-suc, length-paste}
 use Rattle.hex_lines.specs.Hex.{isDigit, digitOf, charOf, areDigits, numberAfter, octetsOf, textOf, decimalOf, bigEndian}
 use Rattle.hex_lines.specs.Line.{upTo}
 
@@ -199,3 +199,14 @@ last-octets n octets h = simp length-drop (omega arith)
 pub last-part : (n octets : ℕ) → octets ≤ 8
     → take (8 - (8 - octets)) (drop (8 - octets) (bigEndian n)) ≡ drop (8 - octets) (bigEndian n)
 last-part n octets h = take-all (8 - (8 - octets)) (drop (8 - octets) (bigEndian n)) (omega (arith, last-octets n octets h))
+
+-- a text from a place on, and its front
+module _ (text : List ℕ) (at : ℕ) where
+  pub beyond : (k : ℕ) → length text < at → take k (drop (length text) text) ≡ drop at text
+  beyond k h = let l : length text ≤ at = omega arith in rw (drop-length text, take-nil k, drop-of-length-le text {i = at} l)
+
+  pub all : take (length text - at) (drop at text) ≡ drop at text
+  all = take-all (length text - at) (drop at text) (omega (arith, length-drop at text))
+
+  pub whole : length text < at → text ≡ take at text
+  whole h = sym (take-all at text (omega arith))

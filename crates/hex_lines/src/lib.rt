@@ -6,8 +6,10 @@ pub use print::put_decimal;
 pub use print::put_number;
 pub use print::put_octets;
 pub use print::put_text;
+pub use read::after;
 pub use read::decode;
 pub use read::find;
+pub use read::front;
 pub use read::is_digit;
 pub use read::value;
 

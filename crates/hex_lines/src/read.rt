@@ -1,7 +1,7 @@
 // Reading.
 ghost use mathlib.Core.Path.{_≡_};
 ghost use Prim.Native.Nat.{_+_, _*_, _/_, _^_, _≤_, _<_};
-ghost use lib.ListN.{length, drop};
+ghost use lib.ListN.{length, take, drop};
 ghost use lib.Seq.{paste};
 ghost use Rattle.hex_lines.specs.Hex.{isDigit, digitOf, areDigits, numberAfter, octetsOf};
 ghost use Rattle.hex_lines.specs.Line.{upTo, decodedOf, written};
@@ -68,7 +68,27 @@ pub fn find(text: &[u8], from: usize, stop: u8) -> usize
     at
 }
 
-fn after(n: u64, c: u8) -> u64
+// The text from a place on.
+pub fn after(text: &[u8], at: usize) -> &[u8]
+    ensures { λ r. ⌜ now r ≡ drop at (now (text .entry)) ⌝ }
+{
+    if text.len() < at {
+        return &text[text.len()..];
+    }
+    &text[at..]
+}
+
+// At most so many characters from the front.
+pub fn front(text: &[u8], n: usize) -> &[u8]
+    ensures { λ r. ⌜ (now r ≡ take n (now (text .entry))) × (length (now r) ≤ length (now (text .entry))) × (length (now r) ≤ n) ⌝ }
+{
+    if text.len() < n {
+        return text;
+    }
+    &text[..n]
+}
+
+fn with_digit(n: u64, c: u8) -> u64
     requires { ⌜ n < 1152921504606846976 ⌝ }
     ensures { λ r. ⌜ (r ≡ n * 16 + digitOf c) × (r < n * 16 + 16) ⌝ }
 {
@@ -83,7 +103,7 @@ pub fn value(text: &[u8]) -> u64
     let mut n = 0;
     let mut i = 0;
     while i < text.len() {
-        n = after(n, text[i]);
+        n = with_digit(n, text[i]);
         i += 1;
     }
     n

@@ -7,8 +7,8 @@ use native.Mathlib.Numerals.{add-one}
 use native.Mathlib.Omega.{arith}
 use borrow.Author.Tests.{eqb-true, eq-eqb, ne-eqb}
 use lib.Dec.{eqb, leb}
-use lib.ListN.{length, getD, take, drop, drop-of-length-le, length-drop}
-use lib.Seq.{drop-cons, take-all, drop-length, take-nil, length-take-le}
+use lib.ListN.{length, getD, drop, drop-of-length-le}
+use lib.Seq.{drop-cons}
 use Rattle.hex_lines.specs.Line.{areOctets, written}
 use Rattle.hex_lines.specs.Hex.{areDigits}
 use Rattle.hex_lines.proofs.Texts as texts
@@ -56,19 +56,6 @@ unfolding isNone
 dash-written text held e =
     let one : length text ≡ 1 = eqb-true _ _ (left (eqb (length text) 1) (eqb (getD text 0 0) 45) e) in
     texts.none text held (texts.odd text (rw one (λ z. omega arith))) .1
-
-module _ (text : List ℕ) (at : ℕ) where
-  pub beyond : (k : ℕ) → length text < at → take k (drop (length text) text) ≡ drop at text
-  beyond k h = let l : length text ≤ at = omega arith in rw (drop-length text, take-nil k, drop-of-length-le text {i = at} l)
-
-  pub all : take (length text - at) (drop at text) ≡ drop at text
-  all = take-all (length text - at) (drop at text) (omega (arith, length-drop at text))
-
-  pub few : (n : ℕ) (r : List ℕ) → r ≡ drop at text → length r < n → (r ≡ take n (drop at text)) × (length r ≤ n)
-  few n r e h = (e ∙ sym (take-all n (drop at text) (omega (arith, ap length e))), omega arith)
-
-  pub some : (n : ℕ) (r : List ℕ) → r ≡ drop at text → n ≤ length r → (take n r ≡ take n (drop at text)) × (length (take n r) ≤ n)
-  some n r e h = (ap (take n) e, omega (arith, length-take-le n r h))
 
 -- a line without octets, and one with
 module _ (text held : List ℕ) (l : Line) (is : l ≡ headOf text) where

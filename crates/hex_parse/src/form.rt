@@ -58,23 +58,10 @@ pub fn fits(form: &[u8], text: &[u8]) -> bool
     begins(form, text)
 }
 
-pub fn after(text: &[u8], at: usize) -> &[u8]
-    ensures { λ r. ⌜ now r ≡ drop at (now (text .entry)) ⌝ }
-{
-    if text.len() < at {
-        return &text[text.len()..];
-    }
-    &text[at..]
-}
-
 fn part(text: &[u8], at: usize, n: usize) -> &[u8]
     ensures { λ r. ⌜ (now r ≡ take n (drop at (now (text .entry)))) × (length (now r) ≤ n) ⌝ }
 {
-    let rest = after(text, at);
-    if rest.len() < n {
-        return rest;
-    }
-    &rest[..n]
+    hex_lines::front(hex_lines::after(text, at), n)
 }
 
 fn number(text: &[u8], at: usize, n: usize) -> u64

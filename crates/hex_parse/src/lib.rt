@@ -124,5 +124,5 @@ pub fn parse(text: &[u8], held: &mut [u8]) -> Line
     if from == 0 {
         return line;
     }
-    with_octets(line, form::after(text, from), held)
+    with_octets(line, hex_lines::after(text, from), held)
 }

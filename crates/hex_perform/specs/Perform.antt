@@ -4,7 +4,6 @@ use mathlib.Core.Bool.{cond}
 use mathlib.Core.List.{List}
 use lib.Dec.{eqb}
 use lib.ListN.{getD}
-use Rattle.nas_core.specs.declared.Core.{Core}
 use Rattle.nas_5gs.specs.declared.Context.{Context}
 use Rattle.nas_5gs.specs.declared.Direction.{Direction}
 use Rattle.nas_5gs.specs.declared.Direction.the-variants.{Uplink, Downlink}

@@ -5,10 +5,10 @@ use mathlib.Core.Bool.{Bool, true, false, cond, _&&_}
 use mathlib.Core.List.{List, [], _∷_, _++_, append-assoc, append-nil}
 use native.Mathlib.Numerals.{add-one}
 use native.Mathlib.Omega.{arith}
-use borrow.Author.Tests.{lt-ltb, le-ltb, eq-eqb, ne-eqb}
+use borrow.Author.Tests.{eq-eqb, ne-eqb}
 use lib.Dec.{ltb, eqb}
-use lib.ListN.{length, getD, take, drop, drop-of-length-le, length-drop}
-use lib.Seq.{paste, take-paste, take-all, take-nil, take-length, drop-length, drop-cons, length-take-le}
+use lib.ListN.{length, getD, take, drop, drop-of-length-le}
+use lib.Seq.{paste, take-paste, take-all, drop-cons}
 use Rattle.hex_lines.specs.Hex.{textOf, decimalOf, bigEndian}
 use Rattle.hex_lines.proofs.Laws as hex
 use Rattle.hex_print.specs.Words.{Puts, octetsWord}
@@ -49,16 +49,6 @@ pub some-octets : (o : List ℕ) → (length o ≡ 0 → ⊥) → octetsWord o �
 unfolding octetsWord
 some-octets [] e = absurd (e refl)
 some-octets (b ∷ bs) e = refl
-
-module _ (text : List ℕ) (at : ℕ) where
-  pub beyond : (k : ℕ) → length text < at → take k (drop (length text) text) ≡ drop at text
-  beyond k h = let l : length text ≤ at = omega arith in rw (drop-length text, take-nil k, drop-of-length-le text {i = at} l)
-
-  pub all : take (length text - at) (drop at text) ≡ drop at text
-  all = take-all (length text - at) (drop at text) (omega (arith, length-drop at text))
-
-  pub whole : length text < at → text ≡ take at text
-  whole h = sym (take-all at text (omega arith))
 
 module _ (rest : List ℕ) (i : ℕ) where
   more : i < length rest → isKept (drop i rest) ≡ (eqb (getD rest i 0) 0xa5 && isKept (drop (suc i) rest))

@@ -45,24 +45,6 @@ fn wrote(answer: Answer) -> usize
     }
 }
 
-fn after(lent: &[u8], n: usize) -> &[u8]
-    ensures { λ r. ⌜ now r ≡ drop n (now (lent .entry)) ⌝ }
-{
-    if lent.len() < n {
-        return &lent[lent.len()..];
-    }
-    &lent[n..]
-}
-
-fn front(lent: &[u8], n: usize) -> &[u8]
-    ensures { λ r. ⌜ (now r ≡ take n (now (lent .entry))) × (length (now r) ≤ length (now (lent .entry))) ⌝ }
-{
-    if lent.len() < n {
-        return lent;
-    }
-    &lent[..n]
-}
-
 // COUNT and WROTE.
 fn used(count: u32, wrote: usize, out: &mut [u8], at: usize) -> usize
     requires { ⌜ at + 64 ≤ length (now out) ⌝ }
@@ -193,8 +175,8 @@ pub fn put_line(
     ensures { λ r. ⌜ Puts (now (out .entry)) at (lineText answer context (now (lent .entry)) «is_changed») (now (out .exit)) r × (r ≤ at + 133000) ⌝ }
 {
     let n = wrote(answer);
-    let next = answer_text(answer, context, front(lent, n), out, at);
-    let tailed = tail(after(lent, n), out, next);
+    let next = answer_text(answer, context, hex_lines::front(lent, n), out, at);
+    let tailed = tail(hex_lines::after(lent, n), out, next);
     let marked = context_mark(is_changed, out, tailed);
     words::text(b"\n", out, marked)
 }

@@ -1,13 +1,13 @@
 // Reads hex lines from standard input, performs each on one of eight contexts, and prints one line for each.
 ghost use Prim.Native.Nat.{_+_, _≤_};
 ghost use lib.ListN.{length};
-
-mod reading;
-mod watch;
-
+use count::Record;
+use hex_parse::Call;
 use hex_parse::Line;
+use hex_perform::Answer;
 use hex_perform::Done;
 use nas_5gs::Context;
+use nas_core::Core;
 
 // What is kept from line to line: the slots, how much of the line that is being read is held, and the place after what is printed.
 struct Session {
@@ -20,6 +20,121 @@ struct Turn {
     session: Session,
     is_last: bool,
     is_error: bool,
+}
+
+// The line that is being read is held whole up to 131,136 characters: more than any line whose octets the program holds.
+
+// A line that is longer than what is held has too many octets, if it has the form: two digits more change nothing and go, any
+// other character stays at the end.
+fn beyond(text: &mut [u8], c: u8) -> usize {
+    if text.len() == 0 {
+        return 0;
+    }
+    let last = text.len() - 1;
+    if !hex_lines::is_digit(text[last]) {
+        return text.len();
+    }
+    if !hex_lines::is_digit(c) {
+        text[last] = c;
+        return text.len();
+    }
+    last
+}
+
+fn with(text: &mut [u8], n: usize, c: u8) -> usize {
+    if n < text.len() {
+        text[n] = c;
+        return n + 1;
+    }
+    beyond(text, c)
+}
+
+// Takes in a piece that has no line end in it, behind the n characters that are held.
+fn held(piece: &[u8], text: &mut [u8], n: usize) -> usize {
+    let mut count = n;
+    let mut i = 0;
+    while i < piece.len() {
+        count = with(text, count, piece[i]);
+        i += 1;
+    }
+    count
+}
+
+// What is watched: that a refusal leaves the context.
+
+fn same_key(a: [u8; 16], b: [u8; 16]) -> bool {
+    check::same(&a, &b)
+}
+
+fn same_core(a: Core, b: Core) -> bool {
+    if a.integrity != b.integrity {
+        return false;
+    }
+    if a.ciphering != b.ciphering {
+        return false;
+    }
+    if a.size != b.size {
+        return false;
+    }
+    let x = a.integrity_key;
+    let y = b.integrity_key;
+    if !same_key(x, y) {
+        return false;
+    }
+    let z = a.ciphering_key;
+    let w = b.ciphering_key;
+    same_key(z, w)
+}
+
+fn same_record(a: Record, b: Record) -> bool {
+    if a.next != b.next {
+        return false;
+    }
+    a.bits == b.bits
+}
+
+fn same_context(a: Context, b: Context) -> bool {
+    if !same_record(a.records[0], b.records[0]) {
+        return false;
+    }
+    if !same_record(a.records[1], b.records[1]) {
+        return false;
+    }
+    if !same_record(a.records[2], b.records[2]) {
+        return false;
+    }
+    if !same_record(a.records[3], b.records[3]) {
+        return false;
+    }
+    same_core(a.core, b.core)
+}
+
+// Creation and restore hand back a context whatever the slot held.
+fn is_making(call: Call) -> bool {
+    match call {
+        Call::New {
+            integrity: _,
+            ciphering: _,
+        } => true,
+        Call::Restore {
+            integrity: _,
+            ciphering: _,
+        } => true,
+        _ => false,
+    }
+}
+
+// Whether a refusal other than 8 changed the context.
+fn is_changed(line: Line, done: Done, before: Context) -> bool {
+    let call = line.call;
+    if is_making(call) {
+        return false;
+    }
+    let answer = done.answer;
+    match answer {
+        Answer::Refused(_) => !same_context(before, done.context),
+        _ => false,
+    }
 }
 
 // So many octets of the output, of those that there are and that a line can print.
@@ -39,13 +154,6 @@ fn lendable_of(n: usize) -> usize
         return n;
     }
     65536
-}
-
-fn front(octets: &[u8], n: usize) -> &[u8] {
-    if octets.len() < n {
-        return octets;
-    }
-    &octets[..n]
 }
 
 fn flush(print: &[u8], at: usize) {
@@ -110,13 +218,13 @@ impl Session {
         lent: &mut [u8],
         print: &mut [u8; 266000],
     ) -> Session {
-        let line = hex_parse::parse(front(text, self.held), octets);
+        let line = hex_parse::parse(hex_lines::front(text, self.held), octets);
         self.held = 0;
         let slot = line.slot % 8;
         let before = self.slots[slot];
         let n = lendable(line.room, lent.len());
-        let done = performed(line, before, front(octets, line.octets), lent, n);
-        let is_changed = watch::is_changed(line, done, before);
+        let done = performed(line, before, hex_lines::front(octets, line.octets), lent, n);
+        let is_changed = is_changed(line, done, before);
         self.at = printed(done, lent, n, is_changed, print, self.at);
         let after = done.context;
         self.slots[slot] = after;
@@ -133,7 +241,7 @@ impl Session {
         lent: &mut [u8],
         print: &mut [u8; 266000],
     ) -> Session {
-        self.held = reading::held(piece, text, self.held);
+        self.held = held(piece, text, self.held);
         if is_end {
             return self.answered(text, octets, lent, print);
         }
@@ -189,7 +297,7 @@ fn read_some(
         };
     }
     let n = io::count(got, input);
-    let taken = session.taken(front(input, n), text, octets, lent, print);
+    let taken = session.taken(hex_lines::front(input, n), text, octets, lent, print);
     Turn {
         session: taken.flushed(print),
         is_last: false,

@@ -1,17 +1,14 @@
 use Prim.Native.Nat.{_≤_}
-use mathlib.Core.Path.{sym, ap}
-use native.Mathlib.Omega.{arith}
+use mathlib.Core.Path.{sym}
 use lib.Seq.{length-take-le}
-use Rattle.nas_5gs.specs.Leaves.{useValues}
-use Rattle.promises.specs.Calls.{seal5gs, outcome}
-use Rattle.promises.proofs.Lent.{wrote-within}
+use Rattle.promises.proofs.Lent.{seal-within}
 use borrow.Author.Needs.{needs}
 use Rattle.example.proofs.send.Statement.{statement}
 use Rattle.example.proofs.send.Tie as tie
 
 array-share-prefix-out : tie.Need-array-share-prefix-out
 array-share-prefix-out c =
-    let fits : c .before .answer .given .0 .1 .0 ≤ 64 = wrote-within (seal5gs _ _ _ _ _) _ _ (ap (outcome useValues) (rw (c .before .answer .given .1) at (c .before .before .before .before .before .seal .ensures))) in
+    let fits : c .before .answer .given .0 .1 .0 ≤ 64 = seal-within _ _ _ _ _ _ _ _ _ _ (rw (c .before .answer .given .1) at (c .before .before .before .before .before .seal .ensures)) in
     search (needs, fits)
 
 slice-aggregate-transmit : tie.Need-slice-aggregate-transmit

@@ -1,7 +1,7 @@
 use mathlib.Core.Path.{sym, ap, _∙_}
 use denote.Ref.{now}
 use Rattle.hex_parse.proofs.Laws as laws
-use borrow.Author.Tests.{lt-ltb, le-ltb, le-leb, lt-leb, eq-eqb, ne-eqb}
+use borrow.Author.Tests.{eq-eqb, ne-eqb}
 use Rattle.hex_parse.specs.Lines.{counted, withOctets}
 use borrow.Author.Needs.{needs}
 use Rattle.hex_parse.proofs.with_octets.Statement.{statement}

@@ -1,5 +1,3 @@
-use mathlib.Core.Path.{sym}
-use mathlib.Core.List.{append-nil}
 use Rattle.hex_print.specs.Lines.{contextText}
 use native.Mathlib.Omega.{arith}
 use Rattle.hex_print.proofs.Laws as laws

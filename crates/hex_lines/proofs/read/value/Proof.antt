@@ -16,14 +16,14 @@ Inv-loop text n₀ i₀ n i = (i ≤ length text) × (n < 16 ^ i) × (numberAfte
 abbrev μ-loop : tie.MeasureT-loop
 μ-loop text n₀ i₀ n i = length text - i
 
-after-requires : tie.Need-after-requires Inv-loop μ-loop
-after-requires c κs = laws.small (c .before .before .loop .i) _ (omega arith) (c .before .before .loop .inv .1)
+with-digit-requires : tie.Need-with-digit-requires Inv-loop μ-loop
+with-digit-requires c κs = laws.small (c .before .before .loop .i) _ (omega arith) (c .before .before .loop .inv .1)
 
 loop-again : tie.Need-loop-again Inv-loop μ-loop
 loop-again c = (
   omega arith,
-  rw add-one (laws.grown (c .before .before .before .loop .i) _ _ (c .before .before .before .loop .inv .1) (c .after .ensures .1)),
-  laws.number-go _ (c .before .before .before .loop .i) (omega arith) _ _ (c .after .ensures .0) (c .before .before .before .loop .inv .2),
+  rw add-one (laws.grown (c .before .before .before .loop .i) _ _ (c .before .before .before .loop .inv .1) (c .with-digit .ensures .1)),
+  laws.number-go _ (c .before .before .before .loop .i) (omega arith) _ _ (c .with-digit .ensures .0) (c .before .before .before .loop .inv .2),
 )
 
 returns : tie.Need-returns Inv-loop μ-loop
@@ -36,5 +36,5 @@ pub value-spec : {M : Type 1} → statement M
 value-spec =
     tie.close
     (tie.spec
-    Inv-loop μ-loop (λ c. search needs) (λ c. search needs) after-requires (λ c. search needs) (λ c. search needs)
+    Inv-loop μ-loop (λ c. search needs) (λ c. search needs) with-digit-requires (λ c. search needs) (λ c. search needs)
     loop-again returns)

@@ -1,4 +1,4 @@
-use borrow.Author.Tests.{lt-ltb, le-ltb, le-leb, lt-leb, eq-eqb, ne-eqb}
+use borrow.Author.Tests.{le-leb, lt-leb}
 use Rattle.hex_parse.proofs.form.is_between.Statement.{statement}
 use Rattle.hex_parse.proofs.form.is_between.Tie as tie
 

@@ -1,6 +1,5 @@
-use mathlib.Core.Path.{refl, sym}
+use mathlib.Core.Path.{refl}
 use Rattle.hex_print.specs.Words.{decimalWord}
-use Rattle.hex_lines.proofs.Laws as hex
 use native.Mathlib.Omega.{arith}
 use Rattle.hex_print.proofs.Laws as laws
 use borrow.Author.Needs.{needs}

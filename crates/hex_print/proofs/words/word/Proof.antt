@@ -1,7 +1,5 @@
 use Prim.Native.Nat.{_*_}
-use mathlib.Core.Path.{refl, sym}
 use Rattle.hex_print.specs.Words.{word}
-use Rattle.hex_lines.proofs.Laws as hex
 use native.Mathlib.Omega.{arith}
 use Rattle.hex_print.proofs.Laws as laws
 use borrow.Author.Needs.{needs}

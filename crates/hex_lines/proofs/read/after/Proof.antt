@@ -1,9 +1,9 @@
 use Prim.Native.Nat.{_-_}
 use lib.ListN.{length}
-use Rattle.hex_parse.proofs.Laws as laws
+use Rattle.hex_lines.proofs.Laws as laws
 use borrow.Author.Needs.{needs}
-use Rattle.hex_parse.proofs.form.after.Statement.{statement}
-use Rattle.hex_parse.proofs.form.after.Tie as tie
+use Rattle.hex_lines.proofs.read.after.Statement.{statement}
+use Rattle.hex_lines.proofs.read.after.Tie as tie
 
 returns : tie.Need-returns
 returns c = laws.beyond (c .before .before .args .text .now) (c .before .before .args .at) (length (c .before .before .args .text .now) - length (c .before .before .args .text .now)) (c .before .if1 .taken)

@@ -1,11 +1,10 @@
 -- The text keeps its length.
 use Prim.Native.Nat.{_-_, _≤_}
 use mathlib.Core.Path.{_≡_}
-use native.Mathlib.Omega.{arith}
 use borrow.Author.Needs.{needs}
 use lib.ListN.{length}
-use Rattle.nas_hex.proofs.reading.held.Statement.{statement}
-use Rattle.nas_hex.proofs.reading.held.Tie as tie
+use Rattle.nas_hex.proofs.held.Statement.{statement}
+use Rattle.nas_hex.proofs.held.Tie as tie
 
 abbrev Inv-loop : tie.InvT-loop
 Inv-loop piece text₀ n count₀ i₀ text count i = (i ≤ length piece) × (length text ≡ length text₀)

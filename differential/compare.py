@@ -14,7 +14,8 @@ def slot_of(line):
     return words[1] if len(words) > 1 else None
 
 
-LIMIT = 8192
+LIMIT = 65535
+HOLDS = 65536           # octets of a line that the program holds
 HEADER = {"seal": 7, "opaque": 7, "open": 7, "epsseal": 6, "epsopen": 6}
 ROOM = {"seal": 5, "opaque": 5, "open": 4, "epsseal": 2, "epsopen": 2, "s1n1": 4}   # the word that says how much output is lent
 
@@ -42,7 +43,7 @@ def wanted(words):
 
 
 def too_long(words):
-    return carried(words) > LIMIT
+    return carried(words) > LIMIT or octets_of(words[-1]) > HOLDS
 
 
 def too_short(words):
@@ -58,7 +59,7 @@ def listed(line, ours, rust):
     if null_with_cipher and rust == "no 13" and ours in ("ok", "no 16"):
         return "null integrity with a cipher", ours == "ok"
     if ours == "no 4" and rust != "bad" and too_long(words):
-        return "limit of 8,192 octets", rust.startswith(("ok", "no 8"))
+        return "limit of 65,535 octets", rust.startswith(("ok", "no 8"))
     if ours == "no 5" and rust != "bad" and too_short(words):
         return "lent output too short", rust.startswith(("ok", "no 8"))
     if words[0] == "s1n1" and ours == "no 16" and rust == "no 6":

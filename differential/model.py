@@ -9,7 +9,7 @@ import sys
 from cryptography.hazmat.primitives import cmac
 from cryptography.hazmat.primitives.ciphers import Cipher, algorithms, modes
 
-LIMIT = 8192            # inner octets, and octets of a container value
+LIMIT = 65535           # inner octets, and octets of a container value
 COUNTS = 1 << 24        # as a next COUNT: exhausted
 HOLDS = 65536           # octets of a line that the program holds
 

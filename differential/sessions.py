@@ -12,8 +12,8 @@ import model
 from model import COUNTS, DOWNLINK, EITHER, UPLINK, Context, Session, place_of
 
 LENGTHS = [0, 1, 2, 3, 4, 5, 6, 7, 8, 9, 12, 13, 15, 16, 17, 28, 29, 31, 32, 33, 61, 63, 64, 65, 200]
-EDGES = [8190, 8191, 8192, 8193, 8194, 8198, 8199, 8200, 8201]
-BEYOND = [65534, 65535, 65536, 65537, 65538]
+EDGES = [2036, 2037, 2038, 2040, 2041, 2044, 2045, 8191, 8192, 8193, 8200, 16377, 16378, 16384, 16385, 32768]
+LIMITS = [65521, 65527, 65528, 65529, 65530, 65534, 65535, 65536, 65537, 65538, 65541, 65542, 65543]
 OFFSETS = [0, 0, 0, 0, 1, 2, 3, -1, -2, -3, -5, -8, -9, -20, -63, -64, -65, -66, 255, 256]
 
 
@@ -69,8 +69,8 @@ class Maker:
         length = self.random.choice(LENGTHS)
         if self.rarely(0.01):
             length = self.random.choice(EDGES)
-        elif self.rarely(0.0002):
-            length = self.random.choice(BEYOND)
+        elif self.rarely(0.001):
+            length = self.random.choice(LIMITS)
         return self.random.randbytes(length)
 
     def inner(self, direction, header):
@@ -88,13 +88,18 @@ class Maker:
             message = bytes([0x7E, 0, self.pick(0x5D, 0x5E)]) + body
         else:
             return body
-        return message[: self.random.choice(EDGES)] if len(message) > 8180 and self.rarely(0.8) else message
+        return self.edged(message)
+
+    def edged(self, message):
+        if len(message) <= 2030 or self.rarely(0.2):
+            return message
+        return message[: self.random.choice(LIMITS if len(message) > 65500 else EDGES)]
 
     def eps(self):
         message = self.pick(b"\x07\x41", b"\x07\x48", b"\x07\x41", b"\x07\x42", b"\x07", b"\x06\x41") + self.octets()
         if self.rarely(0.05):
             message = message[:self.random.randrange(3)]
-        return message[: self.random.choice(EDGES)] if len(message) > 8180 and self.rarely(0.8) else message
+        return self.edged(message)
 
     def damaged(self, octets):
         octets = bytearray(octets)
@@ -146,7 +151,7 @@ class Maker:
         else:
             d, c = self.random.randrange(2), self.pick(1, 1, 1, 2)
             header, context = self.pick(1, 2, 2, 2, 3, 4), self.session.slots[slot]
-            inner = self.inner(d, header)[:8192 if self.rust else 8300]
+            inner = self.inner(d, header)
             speaker = self.speaker(context, place_of(d, c))
             count = speaker.next[0]
             payload = speaker.cipher(count, c, d, inner) if header in (2, 4) else inner
@@ -175,7 +180,6 @@ class Maker:
         algorithms = speaker.ciphering << 4 | speaker.integrity
         more = self.octets() if self.rarely(0.3) else b""
         value = bytes([algorithms if not self.rarely(0.1) else self.random.randrange(256), self.random.randrange(128), 0, 0]) + more
-        value = value[:8188 if self.rust and not self.rarely(0.05) else 8190]
         return f"s1n1v {slot} {hexed(self.damaged(speaker.code(0xFFFFFFFF, 1, 1, value) + value))}"
 
     def raw(self, slot):

@@ -1,4 +1,4 @@
-// Runs document 01's list "Run and compared", and the pairing of header types and messages, and prints what each call answers: 0 for a success, else the refusal's number.
+// Runs document 01's list "Run and compared", the pairing of header types and messages, and messages at the limit, and prints what each call answers: 0 for a success, else the refusal's number.
 use nas_5gs::ChangeAnswer;
 use nas_5gs::ChangeDone;
 use nas_5gs::Connection;
@@ -304,6 +304,146 @@ fn pairings(header_type: u8) {
     pairing(header_type, 0x5e, Direction::Downlink);
 }
 
+// Messages and container values of 8,192, 8,193, 65,535 and 65,536 octets (refusal 4, document 02 item 5). After each seal the message's code is
+// told, after each open whether the output holds what was sealed.
+
+fn front(octets: &[u8], n: usize) -> &[u8] {
+    if octets.len() < n {
+        return octets;
+    }
+    &octets[..n]
+}
+
+fn behind(octets: &[u8], at: usize) -> &[u8] {
+    if octets.len() < at {
+        return octets;
+    }
+    &octets[at..]
+}
+
+fn tell_octet(octet: u8) {
+    io::print_hex(1, octet as u64, 2);
+}
+
+// The code of a message, at its place.
+fn tell_code(message: &[u8], at: usize) {
+    let code = behind(message, at);
+    if code.len() < 4 {
+        return;
+    }
+    io::write_all(1, b"  code: ");
+    tell_octet(code[0]);
+    tell_octet(code[1]);
+    tell_octet(code[2]);
+    tell_octet(code[3]);
+    io::write_all(1, b"\n");
+}
+
+fn tell_same(a: &[u8], b: &[u8]) {
+    if check::same(a, b) {
+        io::write_all(1, b"  output: what was sealed\n");
+        return;
+    }
+    io::write_all(1, b"  output: not what was sealed\n");
+}
+
+// DL NAS TRANSPORT (68), ciphered, and the same octets without the look.
+fn sealed(inner: &[u8], message: &mut [u8]) {
+    let looked = fresh().seal(2, Direction::Downlink, Connection::ThreeGpp, inner, message);
+    tell(b"seal: ", wide(use_number(looked)));
+    tell_code(message, 2);
+    let opaque = fresh().seal_opaque(1, Direction::Downlink, Connection::Non3Gpp, inner, message);
+    tell(b"opaque seal: ", wide(use_number(opaque)));
+    tell_code(message, 2);
+}
+
+fn opened(inner: &[u8], message: &[u8], plain: &mut [u8]) {
+    let done = fresh().open(Direction::Downlink, Connection::Non3Gpp, message, plain);
+    tell(b"open: ", wide(open_number(done)));
+    tell_same(front(plain, inner.len()), inner);
+}
+
+fn eps_opened(inner: &[u8], message: &[u8], plain: &mut [u8]) {
+    let done = fresh().open_eps(message, plain);
+    tell(b"EPS open: ", wide(eps_number(done)));
+    tell_same(front(plain, inner.len()), inner);
+}
+
+// What the opaque seal made, opened, and with its last octet changed.
+fn messages(n: usize) {
+    let mut inner = [0x5au8; 65543];
+    inner[0] = 0x7e;
+    inner[1] = 0;
+    inner[2] = 0x68;
+    let mut message = [0u8; 65543];
+    message[0] = 0x7e;
+    message[1] = 1;
+    sealed(front(&inner, n), &mut message);
+    let mut plain = [0u8; 65543];
+    if 65536 < n {
+        return;
+    }
+    opened(front(&inner, n), front(&message, n + 7), &mut plain);
+    message[n + 6] = 0xa5;
+    opened(front(&inner, n), front(&message, n + 7), &mut plain);
+}
+
+// TRACKING AREA UPDATE REQUEST (07 48).
+fn eps_messages(n: usize) {
+    let mut inner = [0x5au8; 65543];
+    inner[0] = 0x07;
+    inner[1] = 0x48;
+    let mut message = [0u8; 65543];
+    message[0] = 0x17;
+    let done = fresh().seal_eps(front(&inner, n), &mut message);
+    tell(b"EPS seal: ", wide(use_number(done)));
+    tell_code(&message, 1);
+    let mut plain = [0u8; 65543];
+    if 65536 < n {
+        return;
+    }
+    eps_opened(front(&inner, n), front(&message, n + 6), &mut plain);
+    message[n + 5] = 0xa5;
+    eps_opened(front(&inner, n), front(&message, n + 6), &mut plain);
+}
+
+fn tell_verified(value: &[u8]) {
+    let done = fresh().verify_s1_to_n1_container(value);
+    tell(b"verify S1 to N1: ", wide(use_number(done)));
+}
+
+// A container value of n octets, its code right, and then its last octet changed.
+fn containers(n: usize) {
+    let mut value = [0x5au8; 65543];
+    value[4] = 0x22;
+    let code = aes::nia2(KEY, 0xffff_ffff, 1, 1, behind(front(&value, n), 4));
+    nas_core::put_code(code, &mut value);
+    tell_verified(front(&value, n));
+    if n < 9 {
+        return;
+    }
+    let last = n - 1;
+    if 65536 < last {
+        return;
+    }
+    value[last] = 0xa5;
+    tell_verified(front(&value, n));
+}
+
+fn octets(n: usize) {
+    tell(b"octets: ", n as u64);
+    messages(n);
+    eps_messages(n);
+    containers(n);
+}
+
+fn lengths() {
+    octets(8192);
+    octets(8193);
+    octets(65535);
+    octets(65536);
+}
+
 fn main() {
     sizes();
     seven_and_eight();
@@ -314,4 +454,5 @@ fn main() {
     pairings(2);
     pairings(3);
     pairings(4);
+    lengths();
 }

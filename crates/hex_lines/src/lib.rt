@@ -8,6 +8,7 @@ pub use print::put_octets;
 pub use print::put_text;
 pub use read::after;
 pub use read::decode;
+pub use read::digit;
 pub use read::find;
 pub use read::front;
 pub use read::is_digit;

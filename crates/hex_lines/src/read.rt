@@ -22,7 +22,8 @@ pub fn is_digit(c: u8) -> bool
     c <= 102
 }
 
-fn digit(c: u8) -> u8
+// The value of a digit; 0 for any other character.
+pub fn digit(c: u8) -> u8
     ensures { λ r. ⌜ (r ≡ digitOf c) × (r < 16) ⌝ }
 {
     if c < 48 {

@@ -12,11 +12,8 @@ mod words;
 use hex_perform::Answer;
 use nas_5gs::Context;
 
-// No line is longer, where at most 65,536 octets are lent.
-pub const LONGEST: usize = 133_000;
-
 // How many octets a call wrote.
-fn wrote(answer: Answer) -> usize
+pub fn wrote(answer: Answer) -> usize
     ensures { λ r. ⌜ r ≡ wroteOf answer ⌝ }
 {
     match answer {
@@ -79,7 +76,13 @@ fn content(count: u32, wrote: usize, out: &mut [u8], at: usize) -> usize
 }
 
 // An answer with the octets that were written, or the context for `show`.
-fn answer_text(answer: Answer, context: Context, written: &[u8], out: &mut [u8], at: usize) -> usize
+pub fn answer_text(
+    answer: Answer,
+    context: Context,
+    written: &[u8],
+    out: &mut [u8],
+    at: usize,
+) -> usize
     requires { ⌜ at + 1024 + length (now written) * 2 ≤ length (now out) ⌝ }
     ensures { λ r. ⌜ Puts (now (out .entry)) at (answerText answer context (now (written .entry))) (now (out .exit)) r × (r ≤ at + 250 + length (now (written .entry)) * 2) ⌝ }
 {
@@ -142,7 +145,7 @@ fn is_kept(rest: &[u8]) -> bool
     true
 }
 
-fn tail(rest: &[u8], out: &mut [u8], at: usize) -> usize
+pub fn tail(rest: &[u8], out: &mut [u8], at: usize) -> usize
     requires { ⌜ at + 6 ≤ length (now out) ⌝ }
     ensures { λ r. ⌜ Puts (now (out .entry)) at (tailText (now (rest .entry))) (now (out .exit)) r × (r ≤ at + 6) ⌝ }
 {
@@ -152,7 +155,7 @@ fn tail(rest: &[u8], out: &mut [u8], at: usize) -> usize
     words::text(b" !tail", out, at)
 }
 
-fn context_mark(is_changed: bool, out: &mut [u8], at: usize) -> usize
+pub fn context_mark(is_changed: bool, out: &mut [u8], at: usize) -> usize
     requires { ⌜ at + 9 ≤ length (now out) ⌝ }
     ensures { λ r. ⌜ Puts (now (out .entry)) at (contextText «is_changed») (now (out .exit)) r × (r ≤ at + 9) ⌝ }
 {
@@ -171,8 +174,8 @@ pub fn put_line(
     out: &mut [u8],
     at: usize,
 ) -> usize
-    requires { ⌜ (length (now lent) ≤ 65536) × (at + 133000 ≤ length (now out)) ⌝ }
-    ensures { λ r. ⌜ Puts (now (out .entry)) at (lineText answer context (now (lent .entry)) «is_changed») (now (out .exit)) r × (r ≤ at + 133000) ⌝ }
+    requires { ⌜ at + 1100 + length (now lent) * 2 ≤ length (now out) ⌝ }
+    ensures { λ r. ⌜ Puts (now (out .entry)) at (lineText answer context (now (lent .entry)) «is_changed») (now (out .exit)) r ⌝ }
 {
     let n = wrote(answer);
     let next = answer_text(answer, context, hex_lines::front(lent, n), out, at);

@@ -10,7 +10,7 @@ use Rattle.nas_core.specs.declared.Core.{Core}
 
 -- the most inner octets, and the longest container value
 abbrev pub limit : ℕ
-limit = 8192
+limit = 65535
 
 -- two codes of which one is not built
 unfoldable pub unbuilt : ℕ → ℕ → Bool

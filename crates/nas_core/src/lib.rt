@@ -14,7 +14,7 @@ use count::Opening;
 use count::Record;
 
 // The most inner octets, and the longest container value.
-pub const LIMIT: usize = 8192;
+pub const LIMIT: usize = 65535;
 
 #[repr(C)]
 pub struct Core {

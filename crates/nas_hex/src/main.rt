@@ -9,10 +9,12 @@ use hex_perform::Done;
 use nas_5gs::Context;
 use nas_core::Core;
 
-// What is kept from line to line: the slots, how much of the line that is being read is held, and the place after what is printed.
+// What is kept from line to line: the slots, how much of the line that is being read is held and with how many digits it ends, and the
+// place after what is printed.
 struct Session {
     slots: [Context; 8],
     held: usize,
+    digits: usize,
     at: usize,
 }
 
@@ -22,10 +24,14 @@ struct Turn {
     is_error: bool,
 }
 
-// The line that is being read is held whole up to 131,136 characters: more than any line whose octets the program holds.
+// The line that is being read: the front of its text, far longer than any line without octets, and the octets of the digits that it
+// ends with.
 
-// A line that is longer than what is held has too many octets, if it has the form: two digits more change nothing and go, any
-// other character stays at the end.
+// So many octets of a line are held, and one octet more is counted.
+const HOLDS: usize = 65536;
+
+// A line that is longer than the text that is held ends with digits, if it has the form: whether it has it does not depend on two
+// digits more or less, so two go, and any other character stays at the end.
 fn beyond(text: &mut [u8], c: u8) -> usize {
     if text.len() == 0 {
         return 0;
@@ -58,6 +64,48 @@ fn held(piece: &[u8], text: &mut [u8], n: usize) -> usize {
         i += 1;
     }
     count
+}
+
+// A digit is half of an octet: two of them push out what stood there.
+fn put_digit(octets: &mut [u8], at: usize, c: u8) {
+    if at < octets.len() {
+        octets[at] = (octets[at] << 4) | hex_lines::digit(c);
+    }
+}
+
+// One character more, behind so many digits: any that is none begins a new run of them.
+fn with_digit(octets: &mut [u8], digits: usize, c: u8) -> usize {
+    if !hex_lines::is_digit(c) {
+        return 0;
+    }
+    put_digit(octets, digits / 2, c);
+    if digits / 2 <= HOLDS {
+        return digits + 1;
+    }
+    digits
+}
+
+// Takes in a piece that has no line end in it, behind a line that ends with so many digits, and answers with how many it ends then. Their
+// octets come to the front of `octets`, as far as it holds them.
+fn decoded(piece: &[u8], octets: &mut [u8], digits: usize) -> usize {
+    let mut count = digits;
+    let mut i = 0;
+    while i < piece.len() {
+        count = with_digit(octets, count, piece[i]);
+        i += 1;
+    }
+    count
+}
+
+// A parsed line with the octets of the digits that it ends with, for those of the text that is held.
+fn with_octets(line: Line, digits: usize) -> Line {
+    if line.from == 0 {
+        return line;
+    }
+    let mut next = line;
+    next.octets = digits / 2;
+    next.long = HOLDS < digits / 2;
+    next
 }
 
 // What is watched: that a refusal leaves the context.
@@ -137,23 +185,13 @@ fn is_changed(line: Line, done: Done, before: Context) -> bool {
     }
 }
 
-// So many octets of the output, of those that there are and that a line can print.
-fn lendable(room: usize, have: usize) -> usize
-    ensures { λ r. ⌜ (r ≤ have) × (r ≤ 65536) ⌝ }
+fn least(a: usize, b: usize) -> usize
+    ensures { λ r. ⌜ (r ≤ a) × (r ≤ b) ⌝ }
 {
-    if have < room {
-        return lendable_of(have);
+    if a < b {
+        return a;
     }
-    lendable_of(room)
-}
-
-fn lendable_of(n: usize) -> usize
-    ensures { λ r. ⌜ (r ≤ n) × (r ≤ 65536) ⌝ }
-{
-    if n < 65536 {
-        return n;
-    }
-    65536
+    b
 }
 
 fn flush(print: &[u8], at: usize) {
@@ -162,12 +200,17 @@ fn flush(print: &[u8], at: usize) {
     }
 }
 
-// The place for one line more: the front, with what is there written out, if there is no room behind it.
+// So many octets are printed at once, and so many characters are the most that a line with them has.
+const PIECE: usize = 16384;
+
+const LONGEST: usize = 34000;
+
+// The place for a line or a piece more: the front, with what is there written out, if there is no room behind it.
 fn room(print: &[u8], at: usize) -> usize
-    requires { ⌜ 133000 ≤ length (now print) ⌝ }
-    ensures { λ r. ⌜ r + 133000 ≤ length (now (print .entry)) ⌝ }
+    requires { ⌜ 34000 ≤ length (now print) ⌝ }
+    ensures { λ r. ⌜ r + 34000 ≤ length (now (print .entry)) ⌝ }
 {
-    if at <= print.len() - hex_print::LONGEST {
+    if at <= print.len() - LONGEST {
         return at;
     }
     flush(print, at);
@@ -182,20 +225,55 @@ fn performed(line: Line, context: Context, octets: &[u8], lent: &mut [u8], n: us
     hex_perform::perform(line, context, octets, &mut lent[..n])
 }
 
+fn piece_told(octets: &[u8], print: &mut [u8; 65536], at: usize) -> usize
+    requires { ⌜ length (now octets) ≤ 16384 ⌝ }
+{
+    let from = room(print, at);
+    hex_lines::put_octets(octets, print, from)
+}
+
+// The octets behind those that a line begins with.
+fn rest_told(octets: &[u8], print: &mut [u8; 65536], at: usize) -> usize {
+    let mut end = at;
+    let mut done = 0;
+    while PIECE < octets.len() - done {
+        let next = done + PIECE;
+        end = piece_told(&octets[done..next], print, end);
+        done = next;
+    }
+    piece_told(&octets[done..], print, end)
+}
+
+// What stands behind the octets of a line.
+fn ended(rest: &[u8], is_changed: bool, print: &mut [u8; 65536], at: usize) -> usize {
+    let from = room(print, at);
+    let tailed = hex_print::tail(rest, print, from);
+    let marked = hex_print::context_mark(is_changed, print, tailed);
+    hex_lines::put_text(b"\n", print, marked)
+}
+
+// The line of an answer: whole, or in pieces where more is lent than is printed at once.
 fn printed(
     done: Done,
     lent: &[u8],
     n: usize,
     is_changed: bool,
-    print: &mut [u8; 266000],
+    print: &mut [u8; 65536],
     at: usize,
 ) -> usize
-    requires { ⌜ (n ≤ length (now lent)) × (n ≤ 65536) ⌝ }
+    requires { ⌜ n ≤ length (now lent) ⌝ }
 {
     let answer = done.answer;
     let context = done.context;
     let from = room(print, at);
-    hex_print::put_line(answer, context, &lent[..n], is_changed, print, from)
+    if n <= PIECE {
+        return hex_print::put_line(answer, context, &lent[..n], is_changed, print, from);
+    }
+    let wrote = least(hex_print::wrote(answer), n);
+    let first = least(wrote, PIECE);
+    let begun = hex_print::answer_text(answer, context, &lent[..first], print, from);
+    let told = rest_told(&lent[first..wrote], print, begun);
+    ended(&lent[wrote..n], is_changed, print, told)
 }
 
 impl Session {
@@ -206,23 +284,27 @@ impl Session {
         Session {
             slots: [context; 8],
             held: 0,
+            digits: 0,
             at: 0,
         }
     }
 
-    // Answers the line that was read, and begins the next one.
+    // Answers the line that was read, and begins the next one. What is parsed is its text as far as it is held: the octets of that come
+    // to `lent`, where nobody reads them, and those of the line stand in `octets`.
     fn answered(
         mut self,
         text: &[u8],
-        octets: &mut [u8],
+        octets: &[u8],
         lent: &mut [u8],
-        print: &mut [u8; 266000],
+        print: &mut [u8; 65536],
     ) -> Session {
-        let line = hex_parse::parse(hex_lines::front(text, self.held), octets);
+        let parsed = hex_parse::parse(hex_lines::front(text, self.held), lent);
+        let line = with_octets(parsed, self.digits);
         self.held = 0;
+        self.digits = 0;
         let slot = line.slot % 8;
         let before = self.slots[slot];
-        let n = lendable(line.room, lent.len());
+        let n = least(line.room, lent.len());
         let done = performed(line, before, hex_lines::front(octets, line.octets), lent, n);
         let is_changed = is_changed(line, done, before);
         self.at = printed(done, lent, n, is_changed, print, self.at);
@@ -239,9 +321,10 @@ impl Session {
         text: &mut [u8],
         octets: &mut [u8],
         lent: &mut [u8],
-        print: &mut [u8; 266000],
+        print: &mut [u8; 65536],
     ) -> Session {
         self.held = held(piece, text, self.held);
+        self.digits = decoded(piece, octets, self.digits);
         if is_end {
             return self.answered(text, octets, lent, print);
         }
@@ -255,7 +338,7 @@ impl Session {
         text: &mut [u8],
         octets: &mut [u8],
         lent: &mut [u8],
-        print: &mut [u8; 266000],
+        print: &mut [u8; 65536],
     ) -> Session {
         let mut session = self;
         let mut at = 0;
@@ -286,7 +369,7 @@ fn read_some(
     text: &mut [u8],
     octets: &mut [u8],
     lent: &mut [u8],
-    print: &mut [u8; 266000],
+    print: &mut [u8; 65536],
 ) -> Turn {
     let got = libc::read(0, input);
     if got <= 0 {
@@ -306,7 +389,7 @@ fn read_some(
 }
 
 // What follows the last line end is a line too, if the input ended there; if a read failed, it is not known to be one.
-fn finish(turn: Turn, text: &[u8], octets: &mut [u8], lent: &mut [u8], print: &mut [u8; 266000]) {
+fn finish(turn: Turn, text: &[u8], octets: &[u8], lent: &mut [u8], print: &mut [u8; 65536]) {
     if turn.is_error {
         io::write_all(2, b"nas_hex: a read failed\n");
         return;
@@ -325,7 +408,7 @@ fn run(
     text: &mut [u8],
     octets: &mut [u8],
     lent: &mut [u8],
-    print: &mut [u8; 266000],
+    print: &mut [u8; 65536],
 ) -> Turn {
     let mut turn = Turn {
         session,
@@ -347,10 +430,10 @@ fn run(
 
 fn main() {
     let mut input = io::large_buffer();
-    let mut text = [0u8; 131136];
+    let mut text = io::buffer();
     let mut octets = io::large_buffer();
     let mut lent = io::large_buffer();
-    let mut print = [0u8; 266000];
+    let mut print = io::large_buffer();
     let turn = run(
         Session::new(),
         &mut input,
@@ -359,5 +442,5 @@ fn main() {
         &mut lent,
         &mut print,
     );
-    finish(turn, &text, &mut octets, &mut lent, &mut print);
+    finish(turn, &text, &octets, &mut lent, &mut print);
 }

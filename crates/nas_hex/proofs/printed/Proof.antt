@@ -8,10 +8,19 @@ slice-aggregate-put-line : tie.Need-slice-aggregate-put-line
 slice-aggregate-put-line c = simp length-take (omega arith)
 
 put-line-requires : tie.Need-put-line-requires
-put-line-requires c κs = (simp length-take (omega arith), search needs)
+put-line-requires c κs = simp length-take (omega arith)
+
+slice-aggregate-answer-text : tie.Need-slice-aggregate-answer-text
+slice-aggregate-answer-text c = simp length-take (omega arith)
+
+answer-text-requires : tie.Need-answer-text-requires
+answer-text-requires c κs = simp length-take (omega arith)
 
 pub printed-spec : {M : Type 1} → statement M
 printed-spec =
     tie.close
     (tie.spec
-    (λ c κs. search needs) slice-aggregate-put-line put-line-requires (λ c. search needs))
+    (λ c κs. search needs) slice-aggregate-put-line put-line-requires (λ c. search needs) (λ c κs. search needs)
+    (λ c κs. search needs) (λ c κs. search needs) slice-aggregate-answer-text answer-text-requires (λ c. search needs)
+    (λ c. search needs) (λ c. search needs) (λ c κs. search needs) (λ c. search needs) (λ c. search needs)
+    (λ c. search needs) (λ c κs. search needs) (λ c. search needs))

@@ -118,18 +118,18 @@ class Context:
         self.bits[place] |= 1 << (self.next[place] - count - 2)
 
     def verify(self, place, bearer, direction, code, covered):
-        """The COUNT of a received message, used."""
-        count = self.late(place, covered[0])
+        """The COUNT of a received message, used, and its distance: below the highest used one, or above next."""
+        count, next = self.late(place, covered[0]), self.next[place]
         if count is not None and self.code(count, bearer, direction, covered) == code:
             self.use_late(place, count)
-            return count
+            return count, next - 1 - count
         count = self.forward(place, covered[0])
         refuse_if(6, count is None)
         refuse_if(7, self.integrity != 0 and self.code(count, bearer, direction, covered) != code)
         self.use(place, count)
-        return count
+        return count, (count - next) % COUNTS
 
-    # the calls; each answers (COUNT, header type or None, octet or None, octets written)
+    # the calls; each answers (COUNT, header type or None, octet or None, octets written), and those that receive the distance
     def reselect(self, integrity, ciphering, integrity_key, ciphering_key):
         self.fault()
         refuse_if(13, not (built(integrity) and built(ciphering)))
@@ -170,9 +170,9 @@ class Context:
         refuse_if(1, len(message) == 7)
         refuse_if(4, len(message) - 7 > LIMIT)
         refuse_if(5, lent < len(message) - 7)
-        count = self.verify(place_of(direction, connection), connection, direction, message[2:6], message[6:])
+        count, distance = self.verify(place_of(direction, connection), connection, direction, message[2:6], message[6:])
         plain = self.cipher(count, connection, direction, message[7:]) if header in (2, 4) else message[7:]
-        answer = count, header, None, plain
+        answer = count, header, None, plain, distance
         try:
             kind = look(plain)
             together(header, kind)
@@ -198,8 +198,8 @@ class Context:
         refuse_if(2, message[0] != 0x17)
         refuse_if(4, len(message) - 6 > LIMIT)
         refuse_if(5, lent < len(message) - 6)
-        count = self.verify(0, 1, 0, message[1:5], message[5:])
-        answer = count, None, None, message[6:]
+        count, distance = self.verify(0, 1, 0, message[1:5], message[5:])
+        answer = count, None, None, message[6:], distance
         if message[6:8] not in EPS_REQUESTS:
             raise Refusal(8, (answer, 12))
         return answer
@@ -212,10 +212,10 @@ class Context:
 
     def verify_n1_to_s1(self, octet):
         self.fault()
-        count = self.forward(1, octet)
+        count, next = self.forward(1, octet), self.next[1]
         refuse_if(6, count is None)
         self.use(1, count)
-        return count, None, None, b""
+        return count, None, None, b"", (count - next) % COUNTS
 
     def s1_to_n1(self, ncc, ngksi, lent):
         self.fault()
@@ -308,8 +308,8 @@ def parsed(line):
 
 
 def answer_line(answer, carried=None):
-    count, header, octet, octets = answer
-    words = [f"{count:08x}", f"{len(octets):04x}"]
+    count, header, octet, octets, *distance = answer
+    words = [f"{n:08x}" for n in (count, *distance)] + [f"{len(octets):04x}"]
     words += [f"{n:02x}" for n in (header, octet) if n is not None]
     words += [str(carried)] if carried is not None else []
     return " ".join(words + [octets.hex() or "-"])

@@ -35,11 +35,13 @@ fn open_number(done: OpenDone) -> u8 {
         OpenAnswer::Refused(n) => n,
         OpenAnswer::Accepted {
             count: _,
+            distance: _,
             wrote: _,
             header_type: _,
         } => 0,
         OpenAnswer::Content {
             count: _,
+            distance: _,
             wrote: _,
             header_type: _,
             number: _,
@@ -54,11 +56,13 @@ fn open_carried(done: OpenDone) -> u8 {
         OpenAnswer::Refused(_) => 0,
         OpenAnswer::Accepted {
             count: _,
+            distance: _,
             wrote: _,
             header_type: _,
         } => 0,
         OpenAnswer::Content {
             count: _,
+            distance: _,
             wrote: _,
             header_type: _,
             number,
@@ -73,11 +77,13 @@ fn open_count(done: OpenDone) -> u64 {
         OpenAnswer::Refused(_) => 0xffff_ffff,
         OpenAnswer::Accepted {
             count,
+            distance: _,
             wrote: _,
             header_type: _,
         } => count as u64,
         OpenAnswer::Content {
             count,
+            distance: _,
             wrote: _,
             header_type: _,
             number: _,
@@ -89,9 +95,14 @@ fn eps_number(done: EpsOpenDone) -> u8 {
     let answer = done.answer;
     match answer {
         EpsOpenAnswer::Refused(n) => n,
-        EpsOpenAnswer::Accepted { count: _, wrote: _ } => 0,
+        EpsOpenAnswer::Accepted {
+            count: _,
+            distance: _,
+            wrote: _,
+        } => 0,
         EpsOpenAnswer::Content {
             count: _,
+            distance: _,
             wrote: _,
             number: _,
         } => 8,
@@ -102,9 +113,14 @@ fn eps_carried(done: EpsOpenDone) -> u8 {
     let answer = done.answer;
     match answer {
         EpsOpenAnswer::Refused(_) => 0,
-        EpsOpenAnswer::Accepted { count: _, wrote: _ } => 0,
+        EpsOpenAnswer::Accepted {
+            count: _,
+            distance: _,
+            wrote: _,
+        } => 0,
         EpsOpenAnswer::Content {
             count: _,
+            distance: _,
             wrote: _,
             number,
         } => number,

@@ -59,7 +59,7 @@ module _ (k : ℕ) (r : Record) (s : ℕ) where
       let l = t .2 (up k r s) (up-reached .from) (up-reached .ends) in
       record { from = t .0; reach = omega (arith, up-reached); ends = t .1 }
 
-  reached-up : (c : ℕ) → Reached k r s c → up k r s ≡ c
+  pub reached-up : (c : ℕ) → Reached k r s c → up k r s ≡ c
   reached-up c t =
       let u = up-reached in
       residue (2 ^ k) (up k r s) c (u .ends ∙ sym (t .ends)) (omega arith) (omega arith)

@@ -62,6 +62,14 @@ opening k wraps fits size r s = try fits (cond wraps Nothing (lateOf k size r s)
 unfoldable pub forwardOnly : ℕ → Bool → (ℕ → Bool) → Record → ℕ → Opening
 forwardOnly k wraps fits r s = try fits Nothing (forwardOf k wraps r s)
 
+-- Request 8: "for a forward candidate, how far above next (modulo 2^24 under null integrity); for a late one, how far below the highest used". A COUNT below
+-- next is late if it is at most 64 below the highest, the widest window; else it was reached by going round.
+unfoldable pub distanceOf : Record → ℕ → ℕ
+distanceOf r c =
+    cond (leb (r .next) c) (c - r .next)
+    (cond (leb (r .next - 1 - c) 64) (r .next - 1 - c)
+    (c + exhausted - r .next))
+
 -- "marks the former highest COUNT used (there is none if next was 0)": after m places up it is m below the new highest
 unfoldable pub formerHighest : ℕ → ℕ → ℕ
 formerHighest next m = cond (eqb next 0) 0 (2 ^ (m - 1))

@@ -1,7 +1,7 @@
 // A record of COUNTs, as document 01's COUNT rule has it: what may come next, and what a use or a new window size makes of it.
 ghost use mathlib.Core.Path.{_≡_};
 ghost use Prim.Native.Nat.{_+_, _-_, _*_, _%_, _^_, _≤_, _<_, min};
-ghost use Rattle.count.specs.Rule.{exhausted, bit, distance, forwardOf, lateOf, formerHighest, useForward, useRound, useLate, resizeOf};
+ghost use Rattle.count.specs.Rule.{exhausted, bit, distance, forwardOf, lateOf, distanceOf, formerHighest, useForward, useRound, useLate, resizeOf};
 
 // 2^24, the first number that is no COUNT: a next COUNT of this means that all are used.
 pub const EXHAUSTED: u32 = 16777216;
@@ -115,6 +115,22 @@ impl Record {
             return Candidate::At(h - d);
         }
         Candidate::Nothing
+    }
+
+    // How far a forward c lies above next, or a late one below the highest used.
+    pub fn distance_to(self, c: u32) -> u32
+        requires { ⌜ self .next ≤ c + exhausted ⌝ }
+        ensures { λ r. ⌜ r ≡ distanceOf self c ⌝ }
+    {
+        let next = self.next;
+        if next <= c {
+            return c - next;
+        }
+        let below = next - 1 - c;
+        if below <= 64 {
+            return below;
+        }
+        EXHAUSTED - (next - c)
     }
 
     // Forward use of c.

@@ -2,7 +2,7 @@
 // says less breaks this crate.
 ghost use mathlib.Core.Path.{_≡_};
 ghost use mathlib.Core.List.{[]};
-ghost use Rattle.nas_5gs.specs.Leaves.{leaves, changeValues, useValues, openValues, epsOpenValues, octetValues};
+ghost use Rattle.nas_5gs.specs.Leaves.{leaves, changeValues, useValues, openValues, epsOpenValues, octetValues, verifyValues};
 ghost use Rattle.promises.specs.Calls.{setWindow, seal5gs, sealOpaque, open5gs, sealEps, openEps, makeN1ToS1, verifyN1ToS1, makeS1ToN1, verifyS1ToN1, reselect, create, restore, nextCount, window, integrity, ciphering, outcome, gives, makes, reads};
 use nas_5gs::ChangeDone;
 use nas_5gs::Connection;
@@ -12,6 +12,7 @@ use nas_5gs::EpsOpenDone;
 use nas_5gs::OctetDone;
 use nas_5gs::OpenDone;
 use nas_5gs::UseDone;
+use nas_5gs::VerifyDone;
 
 pub fn create(
     integrity: u8,
@@ -110,8 +111,8 @@ pub fn make_n1_to_s1(context: Context) -> OctetDone
     context.n1_to_s1_container()
 }
 
-pub fn verify_n1_to_s1(context: Context, octet: u8) -> UseDone
-    ensures { λ r. ⌜ outcome useValues (leaves (r .answer) (r .context) []) ≡ gives (verifyN1ToS1 octet) context ⌝ }
+pub fn verify_n1_to_s1(context: Context, octet: u8) -> VerifyDone
+    ensures { λ r. ⌜ outcome verifyValues (leaves (r .answer) (r .context) []) ≡ gives (verifyN1ToS1 octet) context ⌝ }
 {
     context.verify_n1_to_s1_container(octet)
 }

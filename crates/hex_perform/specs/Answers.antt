@@ -12,8 +12,10 @@ use Rattle.nas_5gs.specs.declared.OpenAnswer.{OpenAnswer}
 use Rattle.nas_5gs.specs.declared.OpenAnswer.the-variants as open′
 use Rattle.nas_5gs.specs.declared.EpsOpenAnswer.{EpsOpenAnswer}
 use Rattle.nas_5gs.specs.declared.EpsOpenAnswer.the-variants as eps
+use Rattle.nas_5gs.specs.declared.VerifyAnswer.{VerifyAnswer}
+use Rattle.nas_5gs.specs.declared.VerifyAnswer.the-variants as verify
 use Rattle.hex_perform.specs.declared.Answer.{Answer}
-use Rattle.hex_perform.specs.declared.Answer.the-variants.{Done, Refused, Used, Made, Opened, Content, EpsContent}
+use Rattle.hex_perform.specs.declared.Answer.the-variants.{Done, Refused, Used, Made, Opened, Content, EpsContent, Received}
 
 abbrev pub changeAnswer : ChangeAnswer → Answer
 changeAnswer (change.Refused n) = Refused n
@@ -29,13 +31,17 @@ octetAnswer (octet.Made c o) = Made c o
 
 abbrev pub openAnswer : OpenAnswer → Answer
 openAnswer (open′.Refused n) = Refused n
-openAnswer (open′.Accepted c w t) = Opened c w t
-openAnswer (open′.Content c w t n) = Content c w t n
+openAnswer (open′.Accepted c d w t) = Opened c d w t
+openAnswer (open′.Content c d w t n) = Content c d w t n
 
 abbrev pub epsAnswer : EpsOpenAnswer → Answer
 epsAnswer (eps.Refused n) = Refused n
-epsAnswer (eps.Accepted c w) = Used c w
-epsAnswer (eps.Content c w n) = EpsContent c w n
+epsAnswer (eps.Accepted c d w) = Received c d w
+epsAnswer (eps.Content c d w n) = EpsContent c d w n
+
+abbrev pub verifyAnswer : VerifyAnswer → Answer
+verifyAnswer (verify.Refused n) = Refused n
+verifyAnswer (verify.Verified c d) = Received c d 0
 
 -- what a call leaves, with its answer as that value: it writes to the lent output, or it is lent none and `out` stays
 abbrev pub writing : {A : Type 0} → (A → Answer) → Leaves A → Leaves Answer

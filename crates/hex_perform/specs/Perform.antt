@@ -21,7 +21,7 @@ use Rattle.hex_parse.specs.declared.Call.{Call}
 use Rattle.hex_parse.specs.declared.Call.the-variants as call
 use Rattle.hex_perform.specs.declared.Answer.{Answer}
 use Rattle.hex_perform.specs.declared.Answer.the-variants.{Bad, Done, Shown, Refused}
-use Rattle.hex_perform.specs.Answers.{changeAnswer, useAnswer, octetAnswer, openAnswer, epsAnswer, writing, keeping}
+use Rattle.hex_perform.specs.Answers.{changeAnswer, useAnswer, octetAnswer, openAnswer, epsAnswer, verifyAnswer, writing, keeping}
 
 unfoldable pub directionOf : ℕ → Direction
 directionOf n = cond (eqb n 0) Uplink Downlink
@@ -49,7 +49,7 @@ callOf (call.Open d k) l x o out = writing openAnswer (openOf x (directionOf d) 
 callOf call.EpsSeal l x o out = writing useAnswer (sealEpsOf x o out)
 callOf call.EpsOpen l x o out = writing epsAnswer (openEpsOf x o out)
 callOf call.N1ToS1 l x o out = keeping out (writing octetAnswer (n1ToS1Of x))
-callOf (call.VerifyN1ToS1 n) l x o out = keeping out (writing useAnswer (verifyN1ToS1Of x n))
+callOf (call.VerifyN1ToS1 n) l x o out = keeping out (writing verifyAnswer (verifyN1ToS1Of x n))
 callOf (call.S1ToN1 p k) l x o out = writing useAnswer (s1ToN1Of x p k out)
 callOf call.VerifyS1ToN1 l x o out = keeping out (writing useAnswer (verifyS1ToN1Of x o))
 callOf (call.Raw i c n) l x o out =

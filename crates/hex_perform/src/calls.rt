@@ -7,7 +7,7 @@ ghost use Rattle.nas_5gs.specs.Seal.{sealOf, sealOpaqueOf};
 ghost use Rattle.nas_5gs.specs.Open.{openOf};
 ghost use Rattle.nas_5gs.specs.Eps.{sealEpsOf, openEpsOf};
 ghost use Rattle.nas_5gs.specs.Containers.{n1ToS1Of, verifyN1ToS1Of, s1ToN1Of, verifyS1ToN1Of};
-ghost use Rattle.hex_perform.specs.Answers.{changeAnswer, useAnswer, octetAnswer, openAnswer, epsAnswer, writing};
+ghost use Rattle.hex_perform.specs.Answers.{changeAnswer, useAnswer, octetAnswer, openAnswer, epsAnswer, verifyAnswer, writing};
 ghost use Rattle.hex_perform.specs.Perform.{directionOf, connectionOf, rawContext, callOf};
 use crate::Answer;
 use crate::Done;
@@ -160,9 +160,15 @@ fn n1_to_s1(context: Context) -> Done
 }
 
 fn verify_n1_to_s1(context: Context, octet: u8) -> Done
-    ensures { λ r. ⌜ leaves (r .answer) (r .context) [] ≡ writing useAnswer (verifyN1ToS1Of context octet) ⌝ }
+    ensures { λ r. ⌜ leaves (r .answer) (r .context) [] ≡ writing verifyAnswer (verifyN1ToS1Of context octet) ⌝ }
 {
-    used(context.verify_n1_to_s1_container(octet))
+    let done = context.verify_n1_to_s1_container(octet);
+    let answer = done.answer;
+    let next = done.context;
+    Done {
+        answer: crate::verify_answer(answer),
+        context: next,
+    }
 }
 
 fn s1_to_n1(context: Context, ncc: u8, ngksi: u8, out: &mut [u8]) -> Done

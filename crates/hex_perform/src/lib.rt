@@ -2,7 +2,7 @@
 ghost use mathlib.Core.Path.{_≡_};
 ghost use lib.ListN.{length, replicate};
 ghost use Rattle.nas_5gs.specs.Leaves.{leaves};
-ghost use Rattle.hex_perform.specs.Answers.{changeAnswer, useAnswer, octetAnswer, openAnswer, epsAnswer};
+ghost use Rattle.hex_perform.specs.Answers.{changeAnswer, useAnswer, octetAnswer, openAnswer, epsAnswer, verifyAnswer};
 ghost use Rattle.hex_perform.specs.Perform.{performOf};
 
 mod calls;
@@ -14,6 +14,7 @@ use nas_5gs::EpsOpenAnswer;
 use nas_5gs::OctetAnswer;
 use nas_5gs::OpenAnswer;
 use nas_5gs::UseAnswer;
+use nas_5gs::VerifyAnswer;
 
 // What is printed of a call, but for the octets that it wrote. `Content` is refusal 8 with the number that it carries.
 pub enum Answer {
@@ -31,19 +32,27 @@ pub enum Answer {
     },
     Opened {
         count: u32,
+        distance: u32,
         wrote: usize,
         header: u8,
     },
     Content {
         count: u32,
+        distance: u32,
         wrote: usize,
         header: u8,
         number: u8,
     },
     EpsContent {
         count: u32,
+        distance: u32,
         wrote: usize,
         number: u8,
+    },
+    Received {
+        count: u32,
+        distance: u32,
+        wrote: usize,
     },
 }
 
@@ -86,20 +95,24 @@ fn open_answer(answer: OpenAnswer) -> Answer
         OpenAnswer::Refused(number) => Answer::Refused(number),
         OpenAnswer::Accepted {
             count,
+            distance,
             wrote,
             header_type,
         } => Answer::Opened {
             count,
+            distance,
             wrote,
             header: header_type,
         },
         OpenAnswer::Content {
             count,
+            distance,
             wrote,
             header_type,
             number,
         } => Answer::Content {
             count,
+            distance,
             wrote,
             header: header_type,
             number,
@@ -112,15 +125,38 @@ fn eps_answer(answer: EpsOpenAnswer) -> Answer
 {
     match answer {
         EpsOpenAnswer::Refused(number) => Answer::Refused(number),
-        EpsOpenAnswer::Accepted { count, wrote } => Answer::Used { count, wrote },
+        EpsOpenAnswer::Accepted {
+            count,
+            distance,
+            wrote,
+        } => Answer::Received {
+            count,
+            distance,
+            wrote,
+        },
         EpsOpenAnswer::Content {
             count,
+            distance,
             wrote,
             number,
         } => Answer::EpsContent {
             count,
+            distance,
             wrote,
             number,
+        },
+    }
+}
+
+fn verify_answer(answer: VerifyAnswer) -> Answer
+    ensures { λ r. ⌜ r ≡ verifyAnswer answer ⌝ }
+{
+    match answer {
+        VerifyAnswer::Refused(number) => Answer::Refused(number),
+        VerifyAnswer::Verified { count, distance } => Answer::Received {
+            count,
+            distance,
+            wrote: 0,
         },
     }
 }

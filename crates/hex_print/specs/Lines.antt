@@ -10,7 +10,7 @@ use Rattle.nas_core.specs.declared.Core.{Core}
 use Rattle.nas_5gs.specs.declared.Context.{Context}
 use Rattle.nas_5gs.specs.Places.{recordAt}
 use Rattle.hex_perform.specs.declared.Answer.{Answer}
-use Rattle.hex_perform.specs.declared.Answer.the-variants.{Bad, Done, Shown, Refused, Used, Made, Opened, Content, EpsContent}
+use Rattle.hex_perform.specs.declared.Answer.the-variants.{Bad, Done, Shown, Refused, Used, Made, Opened, Content, EpsContent, Received}
 use Rattle.hex_print.specs.Words.{ok, no, bad, word, decimalWord, octetsWord}
 
 -- how many octets were written
@@ -21,17 +21,22 @@ wroteOf Shown = 0
 wroteOf (Refused n) = 0
 wroteOf (Used c w) = w
 wroteOf (Made c o) = 0
-wroteOf (Opened c w t) = w
-wroteOf (Content c w t n) = w
-wroteOf (EpsContent c w n) = w
+wroteOf (Opened c d w t) = w
+wroteOf (Content c d w t n) = w
+wroteOf (EpsContent c d w n) = w
+wroteOf (Received c d w) = w
 
 -- COUNT WROTE
 unfoldable pub usedText : ℕ → ℕ → List ℕ
 usedText c w = word 4 c ++ word 2 w
 
--- no 8 COUNT WROTE
-unfoldable pub contentText : ℕ → ℕ → List ℕ
-contentText c w = no ++ decimalWord 8 ++ usedText c w
+-- COUNT DIST WROTE
+unfoldable pub receivedText : ℕ → ℕ → ℕ → List ℕ
+receivedText c d w = word 4 c ++ word 4 d ++ word 2 w
+
+-- no 8 COUNT DIST WROTE
+unfoldable pub contentText : ℕ → ℕ → ℕ → List ℕ
+contentText c d w = no ++ decimalWord 8 ++ receivedText c d w
 
 -- N B of a record
 unfoldable pub recordText : Record → List ℕ
@@ -55,9 +60,10 @@ answerText Shown x o = shownText x
 answerText (Refused n) x o = no ++ decimalWord n
 answerText (Used c w) x o = ok ++ usedText c w ++ octetsWord o
 answerText (Made c k) x o = ok ++ usedText c 0 ++ word 1 k ++ octetsWord []
-answerText (Opened c w t) x o = ok ++ usedText c w ++ word 1 t ++ octetsWord o
-answerText (Content c w t n) x o = contentText c w ++ word 1 t ++ decimalWord n ++ octetsWord o
-answerText (EpsContent c w n) x o = contentText c w ++ decimalWord n ++ octetsWord o
+answerText (Opened c d w t) x o = ok ++ receivedText c d w ++ word 1 t ++ octetsWord o
+answerText (Content c d w t n) x o = contentText c d w ++ word 1 t ++ decimalWord n ++ octetsWord o
+answerText (EpsContent c d w n) x o = contentText c d w ++ decimalWord n ++ octetsWord o
+answerText (Received c d w) x o = ok ++ receivedText c d w ++ octetsWord o
 
 -- ` !tail` if an octet after those written is no longer a5
 unfoldable pub isKept : List ℕ → Bool

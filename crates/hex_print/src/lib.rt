@@ -4,7 +4,7 @@ ghost use mathlib.Core.List.{_++_};
 ghost use Prim.Native.Nat.{_+_, _*_, _≤_};
 ghost use lib.ListN.{length, take, drop};
 ghost use Rattle.hex_print.specs.Words.{Puts, decimalWord, ok, no};
-ghost use Rattle.hex_print.specs.Lines.{wroteOf, usedText, contentText, answerText, isKept, tailText, contextText, lineText};
+ghost use Rattle.hex_print.specs.Lines.{wroteOf, usedText, receivedText, contentText, answerText, isKept, tailText, contextText, lineText};
 
 mod context;
 mod words;
@@ -25,19 +25,27 @@ pub fn wrote(answer: Answer) -> usize
         Answer::Made { count: _, octet: _ } => 0,
         Answer::Opened {
             count: _,
+            distance: _,
             wrote,
             header: _,
         } => wrote,
         Answer::Content {
             count: _,
+            distance: _,
             wrote,
             header: _,
             number: _,
         } => wrote,
         Answer::EpsContent {
             count: _,
+            distance: _,
             wrote,
             number: _,
+        } => wrote,
+        Answer::Received {
+            count: _,
+            distance: _,
+            wrote,
         } => wrote,
     }
 }
@@ -59,6 +67,24 @@ fn success(count: u32, wrote: usize, out: &mut [u8], at: usize) -> usize
     used(count, wrote, out, next)
 }
 
+// COUNT, distance and WROTE.
+fn received(count: u32, distance: u32, wrote: usize, out: &mut [u8], at: usize) -> usize
+    requires { ⌜ at + 64 ≤ length (now out) ⌝ }
+    ensures { λ r. ⌜ Puts (now (out .entry)) at (receivedText count distance wrote) (now (out .exit)) r × (r ≤ at + 51) ⌝ }
+{
+    let next = words::word(count as u64, 4, out, at);
+    let far = words::word(distance as u64, 4, out, next);
+    words::word(wrote as u64, 2, out, far)
+}
+
+fn accepted(count: u32, distance: u32, wrote: usize, out: &mut [u8], at: usize) -> usize
+    requires { ⌜ at + 128 ≤ length (now out) ⌝ }
+    ensures { λ r. ⌜ Puts (now (out .entry)) at (ok ++ receivedText count distance wrote) (now (out .exit)) r × (r ≤ at + 53) ⌝ }
+{
+    let next = words::text(b"ok", out, at);
+    received(count, distance, wrote, out, next)
+}
+
 fn refusal(number: u8, out: &mut [u8], at: usize) -> usize
     requires { ⌜ at + 64 ≤ length (now out) ⌝ }
     ensures { λ r. ⌜ Puts (now (out .entry)) at (no ++ decimalWord number) (now (out .exit)) r × (r ≤ at + 6) ⌝ }
@@ -67,12 +93,12 @@ fn refusal(number: u8, out: &mut [u8], at: usize) -> usize
     words::decimal(number, out, next)
 }
 
-fn content(count: u32, wrote: usize, out: &mut [u8], at: usize) -> usize
+fn content(count: u32, distance: u32, wrote: usize, out: &mut [u8], at: usize) -> usize
     requires { ⌜ at + 128 ≤ length (now out) ⌝ }
-    ensures { λ r. ⌜ Puts (now (out .entry)) at (contentText count wrote) (now (out .exit)) r × (r ≤ at + 40) ⌝ }
+    ensures { λ r. ⌜ Puts (now (out .entry)) at (contentText count distance wrote) (now (out .exit)) r × (r ≤ at + 57) ⌝ }
 {
     let next = refusal(8, out, at);
-    used(count, wrote, out, next)
+    received(count, distance, wrote, out, next)
 }
 
 // An answer with the octets that were written, or the context for `show`.
@@ -102,32 +128,43 @@ pub fn answer_text(
         }
         Answer::Opened {
             count,
+            distance,
             wrote,
             header,
         } => {
-            let next = success(count, wrote, out, at);
+            let next = accepted(count, distance, wrote, out, at);
             let typed = words::word(header as u64, 1, out, next);
             words::octets(written, out, typed)
         }
         Answer::Content {
             count,
+            distance,
             wrote,
             header,
             number,
         } => {
-            let next = content(count, wrote, out, at);
+            let next = content(count, distance, wrote, out, at);
             let typed = words::word(header as u64, 1, out, next);
             let carried = words::decimal(number, out, typed);
             words::octets(written, out, carried)
         }
         Answer::EpsContent {
             count,
+            distance,
             wrote,
             number,
         } => {
-            let next = content(count, wrote, out, at);
+            let next = content(count, distance, wrote, out, at);
             let carried = words::decimal(number, out, next);
             words::octets(written, out, carried)
+        }
+        Answer::Received {
+            count,
+            distance,
+            wrote,
+        } => {
+            let next = accepted(count, distance, wrote, out, at);
+            words::octets(written, out, next)
         }
     }
 }

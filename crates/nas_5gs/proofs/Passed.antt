@@ -23,6 +23,13 @@ pub fault-passed : (x : Context) → faultOf x ≡ 0 → (x .core .integrity ≤
 unfolding faultOf
 fault-passed x e = core-passed (x .core) (passed (contextRefusals x) e 0)
 
+-- what the distance of a COUNT asks of its record, used late and forward
+pub late-near : (n c : ℕ) → n ≤ c + 65 → n ≤ c + exhausted
+late-near n c h = omega arith
+
+pub ahead-near : (n c : ℕ) → n < exhausted → n ≤ c + exhausted
+ahead-near n c h = omega arith
+
 -- what a call that sends n octets behind a header may rely on
 pub record Sends (x : Context) (p header n k : ℕ) : Type 0 where
   pub size : x .core .size ≤ 64

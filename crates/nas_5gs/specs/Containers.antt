@@ -4,7 +4,7 @@ use mathlib.Core.Bool.{Bool, true, not, _||_}
 use mathlib.Core.List.{List, [], _∷_}
 use lib.ListN.{length}
 use lib.Dec.{leb, ltb}
-use Rattle.count.specs.Rule.{exhausted, forwardOnly}
+use Rattle.count.specs.Rule.{exhausted, forwardOnly, distanceOf}
 use Rattle.refusals.specs.Order.{_when_, first, refusedOr}
 use Rattle.nas_core.specs.Refusals.{limit}
 use Rattle.nas_core.specs.Keyed.{wraps}
@@ -15,9 +15,11 @@ use Rattle.nas_5gs.specs.declared.Direction.the-variants.{Downlink}
 use Rattle.nas_5gs.specs.declared.Connection.the-variants.{ThreeGpp}
 use Rattle.nas_5gs.specs.declared.Context.{Context}
 use Rattle.nas_5gs.specs.declared.UseAnswer.{UseAnswer}
-use Rattle.nas_5gs.specs.declared.UseAnswer.the-variants.{Refused, Used}
+use Rattle.nas_5gs.specs.declared.UseAnswer.the-variants.{Refused}
 use Rattle.nas_5gs.specs.declared.OctetAnswer.{OctetAnswer}
 use Rattle.nas_5gs.specs.declared.OctetAnswer.the-variants as octet
+use Rattle.nas_5gs.specs.declared.VerifyAnswer.{VerifyAnswer}
+use Rattle.nas_5gs.specs.declared.VerifyAnswer.the-variants as verify
 use Rattle.nas_5gs.specs.Places.{placeOf, recordAt, nextAt, faultOf, used}
 use Rattle.nas_5gs.specs.Leaves.{Leaves, leaves, useNext, received}
 
@@ -41,13 +43,13 @@ n1ToS1Of x =
     (lastOctet x (nextAt x containerPlace))
 
 -- verified: 6; it has no code, so every forward candidate fits
-unfoldable pub verifyN1ToS1Of : Context → ℕ → Leaves UseAnswer
+unfoldable pub verifyN1ToS1Of : Context → ℕ → Leaves VerifyAnswer
 verifyN1ToS1Of x s =
     refusedOr (faultOf x)
-    (λ n. leaves (Refused n) x [])
+    (λ n. leaves (verify.Refused n) x [])
     (received x containerPlace
-    (λ n. leaves (Refused n) x [])
-    (λ c next. leaves (Used c 0) next [])
+    (λ n. leaves (verify.Refused n) x [])
+    (λ c next. leaves (verify.Verified c (distanceOf (recordAt x containerPlace) c)) next [])
     (forwardOnly 8 (wraps (x .core)) (λ c. true) (recordAt x containerPlace) s))
 
 -- S1-to-N1 made: 16, 5, 6

@@ -5,6 +5,7 @@ use mathlib.Core.Bool.{Bool, not, cond}
 use mathlib.Core.List.{List, _∷_}
 use lib.ListN.{length, getD, drop}
 use lib.Dec.{ltb, eqb}
+use Rattle.count.specs.Rule.{distanceOf}
 use Rattle.refusals.specs.Order.{_when_, first, refusedOr}
 use Rattle.nas_core.specs.Refusals.{sendRefusals, handRefusals}
 use Rattle.nas_core.specs.Verify.{verifyOf}
@@ -47,18 +48,18 @@ unfoldable pub openEpsRefusal : Context → List ℕ → ℕ → ℕ
 openEpsRefusal x m room = first (openEpsRefusals x m room)
 
 -- accepted, or 8 carrying 12
-abbrev pub epsAnswer : ℕ → ℕ → Bool → EpsOpenAnswer
-epsAnswer c wrote refused = cond refused (Content c wrote 12) (Accepted c wrote)
+abbrev pub epsAnswer : ℕ → ℕ → ℕ → Bool → EpsOpenAnswer
+epsAnswer c far wrote refused = cond refused (Content c far wrote 12) (Accepted c far wrote)
 
-unfoldable pub epsHanded : List ℕ → List ℕ → ℕ → Context → Leaves EpsOpenAnswer
-epsHanded plain out c next = leaves (epsAnswer c (length plain) (notEps plain)) next (over plain out)
+unfoldable pub epsHanded : List ℕ → List ℕ → ℕ → ℕ → Context → Leaves EpsOpenAnswer
+epsHanded plain out c far next = leaves (epsAnswer c far (length plain) (notEps plain)) next (over plain out)
 
 -- not refused so far: 6 or 7, or what follows the header
 unfoldable pub epsOpened : Context → List ℕ → List ℕ → Leaves EpsOpenAnswer
 epsOpened x m out =
     received x epsPlace
     (λ n. leaves (Refused n) x out)
-    (λ c next. epsHanded (drop 6 m) out c next)
+    (λ c next. epsHanded (drop 6 m) out c (distanceOf (recordAt x epsPlace) c) next)
     (verifyOf (x .core) (recordAt x epsPlace) epsBearer epsDirection 1 m)
 
 unfoldable pub openEpsOf : Context → List ℕ → List ℕ → Leaves EpsOpenAnswer

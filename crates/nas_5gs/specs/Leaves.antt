@@ -16,6 +16,8 @@ use Rattle.nas_5gs.specs.declared.EpsOpenAnswer.{EpsOpenAnswer}
 use Rattle.nas_5gs.specs.declared.EpsOpenAnswer.the-variants as eps
 use Rattle.nas_5gs.specs.declared.OctetAnswer.{OctetAnswer}
 use Rattle.nas_5gs.specs.declared.OctetAnswer.the-variants as octet
+use Rattle.nas_5gs.specs.declared.VerifyAnswer.{VerifyAnswer}
+use Rattle.nas_5gs.specs.declared.VerifyAnswer.the-variants as verify
 use Rattle.nas_5gs.specs.Places.{nextAt, used, usedLate}
 
 abbrev pub Leaves : Type 0 → Type 0
@@ -34,24 +36,29 @@ abbrev pub changeValues : ChangeAnswer → Values
 changeValues (change.Refused n) = refusal n
 changeValues change.Done = success
 
--- seals, S1-to-N1 containers, verifying the N1-to-S1 one
+-- seals, S1-to-N1 containers
 abbrev pub useValues : UseAnswer → Values
 useValues (use′.Refused n) = refusal n
-useValues (use′.Used c w) = record { refused = false; number = 0; uses = true; count = c; wrote = w; header = 0; carried = 0; octet = 0 }
+useValues (use′.Used c w) = record { refused = false; number = 0; uses = true; count = c; distance = 0; wrote = w; header = 0; carried = 0; octet = 0 }
 
 -- 5GS open
 abbrev pub openValues : OpenAnswer → Values
 openValues (open′.Refused n) = refusal n
-openValues (open′.Accepted c w t) = record { refused = false; number = 0; uses = true; count = c; wrote = w; header = t; carried = 0; octet = 0 }
-openValues (open′.Content c w t n) = record { refused = true; number = 8; uses = true; count = c; wrote = w; header = t; carried = n; octet = 0 }
+openValues (open′.Accepted c f w t) = record { refused = false; number = 0; uses = true; count = c; distance = f; wrote = w; header = t; carried = 0; octet = 0 }
+openValues (open′.Content c f w t n) = record { refused = true; number = 8; uses = true; count = c; distance = f; wrote = w; header = t; carried = n; octet = 0 }
 
 -- EPS open
 abbrev pub epsOpenValues : EpsOpenAnswer → Values
 epsOpenValues (eps.Refused n) = refusal n
-epsOpenValues (eps.Accepted c w) = record { refused = false; number = 0; uses = true; count = c; wrote = w; header = 0; carried = 0; octet = 0 }
-epsOpenValues (eps.Content c w n) = record { refused = true; number = 8; uses = true; count = c; wrote = w; header = 0; carried = n; octet = 0 }
+epsOpenValues (eps.Accepted c f w) = record { refused = false; number = 0; uses = true; count = c; distance = f; wrote = w; header = 0; carried = 0; octet = 0 }
+epsOpenValues (eps.Content c f w n) = record { refused = true; number = 8; uses = true; count = c; distance = f; wrote = w; header = 0; carried = n; octet = 0 }
 
 -- making the N1-to-S1 container: its one octet is answered as a number
 abbrev pub octetValues : OctetAnswer → Values
 octetValues (octet.Refused n) = refusal n
-octetValues (octet.Made c o) = record { refused = false; number = 0; uses = true; count = c; wrote = 0; header = 0; carried = 0; octet = o }
+octetValues (octet.Made c o) = record { refused = false; number = 0; uses = true; count = c; distance = 0; wrote = 0; header = 0; carried = 0; octet = o }
+
+-- verifying it
+abbrev pub verifyValues : VerifyAnswer → Values
+verifyValues (verify.Refused n) = refusal n
+verifyValues (verify.Verified c f) = record { refused = false; number = 0; uses = true; count = c; distance = f; wrote = 0; header = 0; carried = 0; octet = 0 }

@@ -4,6 +4,7 @@ use mathlib.Core.Bool.{not, cond}
 use mathlib.Core.List.{List, _∷_}
 use lib.ListN.{length, getD, drop}
 use lib.Dec.{ltb, eqb}
+use Rattle.count.specs.Rule.{distanceOf}
 use Rattle.refusals.specs.Order.{_when_, first, refusedOr}
 use Rattle.nas_core.specs.Refusals.{handRefusals}
 use Rattle.nas_core.specs.Keyed.{payload}
@@ -31,19 +32,19 @@ unfoldable pub openRefusal : Context → List ℕ → ℕ → ℕ
 openRefusal x m room = first (openRefusals x m room)
 
 -- accepted, or 8 carrying a number
-abbrev pub openAnswer : ℕ → ℕ → ℕ → ℕ → OpenAnswer
-openAnswer c wrote t n = cond (eqb n 0) (Accepted c wrote t) (Content c wrote t n)
+abbrev pub openAnswer : ℕ → ℕ → ℕ → ℕ → ℕ → OpenAnswer
+openAnswer c far wrote t n = cond (eqb n 0) (Accepted c far wrote t) (Content c far wrote t n)
 
--- the plaintext handed over, with the context in which COUNT c is used
-unfoldable pub handed : ℕ → ℕ → List ℕ → List ℕ → ℕ → Context → Leaves OpenAnswer
-handed t d plain out c next = leaves (openAnswer c (length plain) t (lookOf t d plain)) next (over plain out)
+-- the plaintext handed over, with the context in which COUNT c is used, which lies so far away
+unfoldable pub handed : ℕ → ℕ → List ℕ → List ℕ → ℕ → ℕ → Context → Leaves OpenAnswer
+handed t d plain out c far next = leaves (openAnswer c far (length plain) t (lookOf t d plain)) next (over plain out)
 
 -- not refused so far: 6 or 7, or the payload read under the COUNT that the code fits
 unfoldable pub opened : Context → ℕ → ℕ → ℕ → List ℕ → List ℕ → Leaves OpenAnswer
 opened x p b d m out =
     received x p
     (λ n. leaves (Refused n) x out)
-    (λ c next. handed (typeOf m) d (payload (x .core) (ciphers (typeOf m)) c b d (drop 7 m)) out c next)
+    (λ c next. handed (typeOf m) d (payload (x .core) (ciphers (typeOf m)) c b d (drop 7 m)) out c (distanceOf (recordAt x p) c) next)
     (verifyOf (x .core) (recordAt x p) b d 2 m)
 
 unfoldable pub openOf : Context → Direction → Connection → List ℕ → List ℕ → Leaves OpenAnswer

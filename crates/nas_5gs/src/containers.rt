@@ -9,6 +9,8 @@ use crate::OctetAnswer;
 use crate::OctetDone;
 use crate::UseAnswer;
 use crate::UseDone;
+use crate::VerifyAnswer;
+use crate::VerifyDone;
 use count::Candidate;
 
 impl Context {
@@ -36,25 +38,29 @@ impl Context {
         }
     }
 
-    pub fn verify_n1_to_s1_container(self, octet: u8) -> UseDone
+    pub fn verify_n1_to_s1_container(self, octet: u8) -> VerifyDone
         ensures { λ r. ⌜ leaves (r .answer) (r .context) [] ≡ verifyN1ToS1Of self octet ⌝ }
     {
         let n = self.fault();
         if n != 0 {
-            return UseDone {
-                answer: UseAnswer::Refused(n),
+            return VerifyDone {
+                answer: VerifyAnswer::Refused(n),
                 context: self,
             };
         }
         let core = self.core;
-        let candidate = core.forward(self.records[crate::CONTAINER_PLACE], octet);
+        let rec = self.records[crate::CONTAINER_PLACE];
+        let candidate = core.forward(rec, octet);
         match candidate {
-            Candidate::Nothing => UseDone {
-                answer: UseAnswer::Refused(6),
+            Candidate::Nothing => VerifyDone {
+                answer: VerifyAnswer::Refused(6),
                 context: self,
             },
-            Candidate::At(c) => UseDone {
-                answer: UseAnswer::Used { count: c, wrote: 0 },
+            Candidate::At(c) => VerifyDone {
+                answer: VerifyAnswer::Verified {
+                    count: c,
+                    distance: rec.distance_to(c),
+                },
                 context: self.used(crate::CONTAINER_PLACE, c),
             },
         }

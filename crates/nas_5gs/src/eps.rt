@@ -62,14 +62,15 @@ impl Context {
     }
 
     // The code is verified and its COUNT used: what follows the header goes to the front of the output, and is looked at.
-    fn hand_eps(self, count: u32, message: &[u8], out: &mut [u8]) -> EpsOpenDone
+    fn hand_eps(self, count: u32, distance: u32, message: &[u8], out: &mut [u8]) -> EpsOpenDone
         requires { ⌜ (6 ≤ length (now message)) × (length (now message) - 6 ≤ length (now out)) ⌝ }
-        ensures { λ r. ⌜ leaves (r .answer) (r .context) (now (out .exit)) ≡ epsHanded (drop 6 (now (message .entry))) (now (out .entry)) count self ⌝ }
+        ensures { λ r. ⌜ leaves (r .answer) (r .context) (now (out .exit)) ≡ epsHanded (drop 6 (now (message .entry))) (now (out .entry)) count distance self ⌝ }
     {
         let wrote = message.len() - envelope::EPS_HEADER;
         if envelope::read_eps(message, out) {
             let answer = EpsOpenAnswer::Content {
                 count,
+                distance,
                 wrote,
                 number: 12,
             };
@@ -79,7 +80,11 @@ impl Context {
             };
         }
         EpsOpenDone {
-            answer: EpsOpenAnswer::Accepted { count, wrote },
+            answer: EpsOpenAnswer::Accepted {
+                count,
+                distance,
+                wrote,
+            },
             context: self,
         }
     }
@@ -89,8 +94,9 @@ impl Context {
         ensures { λ r. ⌜ leaves (r .answer) (r .context) (now (out .exit)) ≡ epsOpened self (now (message .entry)) (now (out .entry)) ⌝ }
     {
         let core = self.core;
+        let rec = self.records[crate::EPS_PLACE];
         let choice = core.verify(
-            self.records[crate::EPS_PLACE],
+            rec,
             envelope::EPS_BEARER,
             envelope::EPS_DIRECTION,
             envelope::EPS_CODE,
@@ -106,8 +112,9 @@ impl Context {
                 context: self,
             },
             Opening::Late(c) => self.used_late(crate::EPS_PLACE, c)
-                .hand_eps(c, message, out),
-            Opening::Forward(c) => self.used(crate::EPS_PLACE, c).hand_eps(c, message, out),
+                .hand_eps(c, rec.distance_to(c), message, out),
+            Opening::Forward(c) => self.used(crate::EPS_PLACE, c)
+                .hand_eps(c, rec.distance_to(c), message, out),
         }
     }
 

@@ -60,16 +60,19 @@ pub struct UseDone {
     pub context: Context,
 }
 
+// A message opened: the distance says how many COUNTs a forward one skipped, or how far below the highest used a late one lies.
 // `Content` is refusal 8 and has the number that it carries.
 pub enum OpenAnswer {
     Refused(u8),
     Accepted {
         count: u32,
+        distance: u32,
         wrote: usize,
         header_type: u8,
     },
     Content {
         count: u32,
+        distance: u32,
         wrote: usize,
         header_type: u8,
         number: u8,
@@ -85,10 +88,12 @@ pub enum EpsOpenAnswer {
     Refused(u8),
     Accepted {
         count: u32,
+        distance: u32,
         wrote: usize,
     },
     Content {
         count: u32,
+        distance: u32,
         wrote: usize,
         number: u8,
     },
@@ -107,6 +112,17 @@ pub enum OctetAnswer {
 
 pub struct OctetDone {
     pub answer: OctetAnswer,
+    pub context: Context,
+}
+
+// The N1-to-S1 container verified: it writes nothing.
+pub enum VerifyAnswer {
+    Refused(u8),
+    Verified { count: u32, distance: u32 },
+}
+
+pub struct VerifyDone {
+    pub answer: VerifyAnswer,
     pub context: Context,
 }
 

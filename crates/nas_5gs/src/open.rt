@@ -41,13 +41,14 @@ impl Context {
         self,
         header_type: u8,
         count: u32,
+        distance: u32,
         bearer: u8,
         direction: u8,
         message: &[u8],
         out: &mut [u8],
     ) -> OpenDone
         requires { ⌜ (7 ≤ length (now message)) × (length (now message) - 7 ≤ length (now out)) ⌝ }
-        ensures { λ r. ⌜ leaves (r .answer) (r .context) (now (out .exit)) ≡ handed «header_type» direction (payload (self .core) (ciphers «header_type») count bearer direction (drop 7 (now (message .entry)))) (now (out .entry)) count self ⌝ }
+        ensures { λ r. ⌜ leaves (r .answer) (r .context) (now (out .exit)) ≡ handed «header_type» direction (payload (self .core) (ciphers «header_type») count bearer direction (drop 7 (now (message .entry)))) (now (out .entry)) count distance self ⌝ }
     {
         let wrote = message.len() - envelope::HEADER;
         let number = envelope::read(
@@ -62,6 +63,7 @@ impl Context {
         if number == 0 {
             let answer = OpenAnswer::Accepted {
                 count,
+                distance,
                 wrote,
                 header_type,
             };
@@ -72,6 +74,7 @@ impl Context {
         }
         let answer = OpenAnswer::Content {
             count,
+            distance,
             wrote,
             header_type,
             number,
@@ -94,8 +97,9 @@ impl Context {
         ensures { λ r. ⌜ leaves (r .answer) (r .context) (now (out .exit)) ≡ opened self p bearer direction (now (message .entry)) (now (out .entry)) ⌝ }
     {
         let core = self.core;
+        let rec = self.records[p];
         let t = message[1] % 16;
-        let choice = core.verify(self.records[p], bearer, direction, envelope::CODE, message);
+        let choice = core.verify(rec, bearer, direction, envelope::CODE, message);
         match choice {
             Opening::None => OpenDone {
                 answer: OpenAnswer::Refused(6),
@@ -106,8 +110,9 @@ impl Context {
                 context: self,
             },
             Opening::Late(c) => self.used_late(p, c)
-                .hand(t, c, bearer, direction, message, out),
-            Opening::Forward(c) => self.used(p, c).hand(t, c, bearer, direction, message, out),
+                .hand(t, c, rec.distance_to(c), bearer, direction, message, out),
+            Opening::Forward(c) => self.used(p, c)
+                .hand(t, c, rec.distance_to(c), bearer, direction, message, out),
         }
     }
 

@@ -11,6 +11,7 @@ use Rattle.count.specs.declared.Candidate.the-variants.{Nothing, At}
 use Rattle.count.specs.declared.Opening.the-variants.{Late, Forward}
 use Rattle.count.proofs.Candidates.{late-at, forward-at, never}
 use Rattle.count.proofs.Openings.{answers}
+use Rattle.count.proofs.Skipped.{forward-next}
 use Rattle.nas_core.specs.declared.Core.{Core}
 use Rattle.nas_core.specs.Keyed.{wraps}
 use Rattle.nas_core.specs.Verify.{fits, verifyOf}
@@ -26,10 +27,11 @@ module _ (x : Core) (r : Record) (b d p : ℕ) (m : List ℕ) (c : ℕ) (h : get
       found true k = never k
       found false k = let l = late-at r (x .size) (getD m (p + 4) 0) c h k in (l .0, omega arith)
 
-  pub forward-chosen : verifyOf x r b d p m ≡ Forward c → (c < exhausted) × (wraps x ≡ false → r .next ≤ c)
+  pub forward-chosen : verifyOf x r b d p m ≡ Forward c → (c < exhausted) × (wraps x ≡ false → r .next ≤ c) × (r .next < exhausted)
   unfolding verifyOf opening
   forward-chosen e =
       let s = getD m (p + 4) 0 in
       let l = cond (wraps x) Nothing (lateOf 8 (x .size) r s) in
-      let f = forward-at (wraps x) r s c h (answers (λ n. fits x n b d p m) l (forwardOf 8 (wraps x) r s) (Forward c) .0 e .1) in
-      (f .0, f .1)
+      let e′ = answers (λ n. fits x n b d p m) l (forwardOf 8 (wraps x) r s) (Forward c) .0 e .1 in
+      let f = forward-at (wraps x) r s c h e′ in
+      (f .0, f .1, forward-next 8 (wraps x) r s c e′)

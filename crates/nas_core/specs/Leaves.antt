@@ -31,6 +31,7 @@ pub record Values : Type 0 where
   pub number : ℕ
   pub uses : Bool
   pub count : ℕ
+  pub distance : ℕ
   pub wrote : ℕ
   pub header : ℕ
   pub carried : ℕ
@@ -38,8 +39,8 @@ pub record Values : Type 0 where
 
 -- a number alone
 abbrev pub refusal : ℕ → Values
-refusal n = record { refused = true; number = n; uses = false; count = 0; wrote = 0; header = 0; carried = 0; octet = 0 }
+refusal n = record { refused = true; number = n; uses = false; count = 0; distance = 0; wrote = 0; header = 0; carried = 0; octet = 0 }
 
 -- a success that uses no COUNT
 abbrev pub success : Values
-success = record { refused = false; number = 0; uses = false; count = 0; wrote = 0; header = 0; carried = 0; octet = 0 }
+success = record { refused = false; number = 0; uses = false; count = 0; distance = 0; wrote = 0; header = 0; carried = 0; octet = 0 }

@@ -27,7 +27,7 @@ use Rattle.nas_5gs.specs.declared.Context.{Context}
 use Rattle.nas_5gs.specs.declared.Direction.{Direction}
 use Rattle.nas_5gs.specs.declared.Connection.{Connection}
 use Rattle.nas_5gs.specs.Places.{directionNo, bearerNo, placeOf, recordAt, nextAt, faultOf}
-use Rattle.nas_5gs.specs.Leaves.{useNext, received, useValues, refusal}
+use Rattle.nas_5gs.specs.Leaves.{useNext, received, verifyValues, refusal}
 use Rattle.nas_5gs.specs.Envelope.{wrongType, envelope}
 use Rattle.nas_5gs.specs.Seal.{sealRefusals, sealRefusal, opaqueRefusals, opaqueRefusal}
 use Rattle.nas_5gs.specs.Open.{typeOf, openRefusal, opened, openOf}
@@ -204,7 +204,7 @@ module _ (z : Context) where
   )
 
   octet-taken : (s c : ℕ) (o : Opening) → ((c′ : ℕ) → o ≡ Late c′ → ⊥)
-      → let q = outcome useValues (received z containerPlace (octetRefused z s) (octetUsed z s) o) in (Succeeds q × Uses q c) ↔ (o ≡ Forward c)
+      → let q = outcome verifyValues (received z containerPlace (octetRefused z s) (octetUsed z s) o) in (Succeeds q × Uses q c) ↔ (o ≡ Forward c)
   octet-taken s c None none-late = ((λ h. let q : _≡_ {A = ℕ} 0 1 = cc in absurd (omega arith)), λ e. let q : _≡_ {A = ℕ} 0 1 = cc in absurd (omega arith))
   octet-taken s c Wrong none-late = ((λ h. let q : _≡_ {A = ℕ} 0 1 = cc in absurd (omega arith)), λ e. let q : _≡_ {A = ℕ} 0 1 = cc in absurd (omega arith))
   octet-taken s c (Late n) none-late = absurd (none-late n refl)

@@ -13,7 +13,7 @@ use Rattle.count.specs.declared.Opening.{Opening}
 use Rattle.count.specs.declared.Opening.the-variants.{Late, Forward, None, Wrong}
 use Rattle.count.specs.declared.Candidate.{Candidate}
 use Rattle.count.specs.declared.Candidate.the-variants.{Nothing, At}
-use Rattle.count.specs.Rule.{exhausted, forwardOf, tryForward, forwardOnly}
+use Rattle.count.specs.Rule.{exhausted, distanceOf, forwardOf, tryForward, forwardOnly}
 use Rattle.count.specs.Run.{In}
 use Rattle.count.proofs.Candidates.{never}
 use Rattle.count.proofs.Openings.{answers}
@@ -32,7 +32,7 @@ use Rattle.nas_5gs.specs.declared.UseAnswer.the-variants as use′
 use Rattle.nas_5gs.specs.declared.OpenAnswer.the-variants as open′
 use Rattle.nas_5gs.specs.declared.EpsOpenAnswer.the-variants as eps
 use Rattle.nas_5gs.specs.Places.{directionNo, bearerNo, placeOf, four, anyOver, recordAt, nextAt, faultOf, used, usedLate}
-use Rattle.nas_5gs.specs.Leaves.{leaves, over, useNext, received, Values, refusal, changeValues, useValues, openValues, epsOpenValues}
+use Rattle.nas_5gs.specs.Leaves.{leaves, over, useNext, received, Values, refusal, changeValues, useValues, openValues, epsOpenValues, verifyValues}
 use Rattle.nas_5gs.specs.Changes.{refusedContext, newOf, restoreOf, reselectOf, windowOf}
 use Rattle.nas_5gs.specs.Envelope.{ciphers, envelope}
 use Rattle.nas_5gs.specs.Seal.{sealRefusals, sealRefusal, opaqueRefusals, opaqueRefusal}
@@ -41,7 +41,7 @@ use Rattle.nas_5gs.specs.Eps.{epsPlace, notEps, epsMessage, sealEpsRefusals, se
 use Rattle.nas_5gs.specs.Containers.{containerPlace, containerBearer, containerDirection, s1Count, s1Value, s1ToN1, s1ToN1Refusals, s1ToN1Refusal}
 use Rattle.promises.specs.Calls.{create, restore, makes, Call, setWindow, reselect, seal5gs, sealOpaque, open5gs, sealEps, openEps, makeN1ToS1, verifyN1ToS1, makeS1ToN1, verifyS1ToN1, Outcome, outcome, gives, lent, placeIn}
 use Rattle.promises.specs.Demand1.{numbersOf, Demand1, MayBeLate, Demand1Uses, HandsOver, Opened, plain5gs, Demand1Open, Built, Demand1Making, Demand1Changes}
-use Rattle.promises.proofs.Shapes.{refusalOf, found, plain, look, openedAs, epsFound, epsAs, octetFound, octetRefused, octetUsed}
+use Rattle.promises.proofs.Shapes.{refusalOf, found, plain, look, openedAs, epsFound, epsAs, octetFound, octetRefused, octetAs, octetUsed}
 use Rattle.promises.proofs.Passing.{passes, alone, sends, gives-passed, gives-refused, uses-passed}
 use Rattle.promises.proofs.Numbers.{Among, there, or-right, refusal-listed, refusal-not-8, look-listed, fault-first}
 use Rattle.promises.proofs.Opening.{payload-length, eps-sealed}
@@ -101,11 +101,11 @@ unfolding forwardOnly
 octet-not-wrong x n = never-wrong (forwardOf 8 (wraps (x .core)) (recordAt x containerPlace) n)
 
 told-octet : (s : List ℕ) (x : Context) (n : ℕ) (o : Opening) → In 6 s → (o ≡ Wrong → ⊥)
-    → Told s x [] (outcome useValues (received x containerPlace (octetRefused x n) (octetUsed x n) o))
+    → Told s x [] (outcome verifyValues (received x containerPlace (octetRefused x n) (octetUsed x n) o))
 told-octet s x n None six not-wrong = told-alone s x [] 6 six
 told-octet s x n Wrong six not-wrong = absurd (not-wrong refl)
-told-octet s x n (Late c) six not-wrong = told-over s x [] (useValues (use′.Used c 0)) (usedLate x containerPlace c) [] (inl refl) refl (omega arith)
-told-octet s x n (Forward c) six not-wrong = told-over s x [] (useValues (use′.Used c 0)) (used x containerPlace c) [] (inl refl) refl (omega arith)
+told-octet s x n (Late c) six not-wrong = told-over s x [] (verifyValues (octetAs x n c)) (usedLate x containerPlace c) [] (inl refl) refl (omega arith)
+told-octet s x n (Forward c) six not-wrong = told-over s x [] (verifyValues (octetAs x n c)) (used x containerPlace c) [] (inl refl) refl (omega arith)
 
 pub s1-long : (x : Context) (ncc ngksi : ℕ) → length (s1ToN1 (x .core) ncc ngksi) ≡ 8
 unfolding s1ToN1 codeBy
@@ -220,7 +220,7 @@ module _ (x : Context) where
   received-uses v no′ yes′ plain-of a p out (Forward c) u = inl (rw (a .count c))
 
   octet-uses : (n : ℕ) (o : Opening) → ((c : ℕ) → o ≡ Late c → ⊥)
-      → UsedAs containerPlace ⊥ (outcome useValues (received x containerPlace (octetRefused x n) (octetUsed x n) o))
+      → UsedAs containerPlace ⊥ (outcome verifyValues (received x containerPlace (octetRefused x n) (octetUsed x n) o))
   octet-uses n None never u = let z : _≡_ {A = ℕ} 0 1 = cc in absurd (omega arith)
   octet-uses n Wrong never u = let z : _≡_ {A = ℕ} 0 1 = cc in absurd (omega arith)
   octet-uses n (Late c) never u = absurd (never c refl)
@@ -265,8 +265,8 @@ module _ (x : Context) (p b d : ℕ) (m out : List ℕ) where
     where
       go : (t : Bool) → eqb (look x p b d m out c) 0 ≡ t
           → let w = openValues (
-          cond t (open′.Accepted c (length (plain x p b d m out c)) (typeOf m))
-          (open′.Content c (length (plain x p b d m out c)) (typeOf m) (look x p b d m out c))) in
+          cond t (open′.Accepted c (distanceOf (recordAt x p) c) (length (plain x p b d m out c)) (typeOf m))
+          (open′.Content c (distanceOf (recordAt x p) c) (length (plain x p b d m out c)) (typeOf m) (look x p b d m out c))) in
           (w .header ≡ typeOf m) × (w .carried ≡ look x p b d m out c)
       go true e = (refl, sym (eqb-true (look x p b d m out c) 0 e))
       go false e = (refl, refl)
@@ -280,8 +280,8 @@ module _ (x : Context) (p b d : ℕ) (m out : List ℕ) where
 
       go : (t : Bool) → eqb (look x p b d m out c) 0 ≡ t
           → let w = openValues (
-          cond t (open′.Accepted c (length (plain x p b d m out c)) (typeOf m))
-          (open′.Content c (length (plain x p b d m out c)) (typeOf m) (look x p b d m out c))) in
+          cond t (open′.Accepted c (distanceOf (recordAt x p) c) (length (plain x p b d m out c)) (typeOf m))
+          (open′.Content c (distanceOf (recordAt x p) c) (length (plain x p b d m out c)) (typeOf m) (look x p b d m out c))) in
           w .number ≡ 8 → In (w .carried) (9 ∷ 10 ∷ 11 ∷ [])
       go true e h = absurd (omega arith)
       go false e h = listed e (look-listed (typeOf m) d (plain x p b d m out c))
@@ -307,12 +307,12 @@ eps-carries x m out None h = absurd (omega arith)
 eps-carries x m out Wrong h = absurd (omega arith)
 eps-carries x m out (Late c) h = go (notEps (drop 6 m)) h
   where
-    go : (t : Bool) → let w = epsOpenValues (cond t (eps.Content c (length (drop 6 m)) 12) (eps.Accepted c (length (drop 6 m)))) in w .number ≡ 8 → w .carried ≡ 12
+    go : (t : Bool) → let w = epsOpenValues (cond t (eps.Content c (distanceOf (recordAt x epsPlace) c) (length (drop 6 m)) 12) (eps.Accepted c (distanceOf (recordAt x epsPlace) c) (length (drop 6 m)))) in w .number ≡ 8 → w .carried ≡ 12
     go true e = refl
     go false e = absurd (omega arith)
 eps-carries x m out (Forward c) h = go (notEps (drop 6 m)) h
   where
-    go : (t : Bool) → let w = epsOpenValues (cond t (eps.Content c (length (drop 6 m)) 12) (eps.Accepted c (length (drop 6 m)))) in w .number ≡ 8 → w .carried ≡ 12
+    go : (t : Bool) → let w = epsOpenValues (cond t (eps.Content c (distanceOf (recordAt x epsPlace) c) (length (drop 6 m)) 12) (eps.Accepted c (distanceOf (recordAt x epsPlace) c) (length (drop 6 m)))) in w .number ≡ 8 → w .carried ≡ 12
     go true e = refl
     go false e = absurd (omega arith)
 

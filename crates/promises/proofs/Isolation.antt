@@ -11,6 +11,7 @@ use borrow.Author.Tests.{eqb-true, eqb-false}
 use Rattle.count.specs.declared.Opening.{Opening}
 use Rattle.count.specs.declared.Opening.the-variants.{Late, Forward, None, Wrong}
 use Rattle.count.specs.declared.Record.{Record}
+use Rattle.count.specs.Rule.{distanceOf}
 use Rattle.count.specs.Run.{State, Act, stay, uses, resize, close, actOf}
 use Rattle.count.proofs.Lifting.{others}
 use Rattle.nas_core.specs.Keyed.{wraps}
@@ -19,8 +20,9 @@ use Rattle.nas_5gs.specs.declared.Direction.the-variants.{Uplink, Downlink}
 use Rattle.nas_5gs.specs.declared.Connection.the-variants.{ThreeGpp, Non3Gpp}
 use Rattle.nas_5gs.specs.declared.OpenAnswer.the-variants as open′
 use Rattle.nas_5gs.specs.declared.EpsOpenAnswer.the-variants as eps
+use Rattle.nas_5gs.specs.declared.VerifyAnswer.the-variants as verify
 use Rattle.nas_5gs.specs.Places.{directionNo, bearerNo, placeOf, recordAt, faultOf}
-use Rattle.nas_5gs.specs.Leaves.{leaves, over, useNext, received, Values, useValues, openValues, epsOpenValues}
+use Rattle.nas_5gs.specs.Leaves.{leaves, over, useNext, received, Values, useValues, openValues, epsOpenValues, verifyValues}
 use Rattle.nas_5gs.specs.Envelope.{envelope}
 use Rattle.nas_5gs.specs.Seal.{sealRefusal, opaqueRefusal}
 use Rattle.nas_5gs.specs.Open.{openRefusal, opened, handed}
@@ -29,7 +31,7 @@ use Rattle.nas_5gs.specs.Containers.{containerPlace, s1ToN1, s1ToN1Refusal, ver
 use Rattle.promises.specs.Calls.{Call, setWindow, reselect, seal5gs, sealOpaque, open5gs, sealEps, openEps, makeN1ToS1, verifyN1ToS1, makeS1ToN1, verifyS1ToN1, Outcome, outcome, gives, lent, placeIn, contextAfter}
 use Rattle.promises.specs.Words.{SameKeys, recordOf}
 use Rattle.promises.specs.Isolation.{Elsewhere, Apart, Isolation}
-use Rattle.promises.proofs.Shapes.{refusalOf, passing, does, Reselects, acts, found, plain, openedAs, epsFound, epsAs, octetFound, octetRefused, octetUsed}
+use Rattle.promises.proofs.Shapes.{refusalOf, passing, does, Reselects, acts, found, plain, openedAs, epsFound, epsAs, octetFound, octetRefused, octetAs, octetUsed}
 use Rattle.promises.proofs.Soundness.{machine, Four, acting, if-passed, stays-four}
 use Rattle.promises.proofs.Passing.{passes, alone, sends, gives-is, gives-refused}
 use Rattle.promises.proofs.Numbers.{fault-first}
@@ -152,13 +154,16 @@ module _ (x : Context) (l : List Record) where
     same-passes makeN1ToS1 on e = rw e (refl, refl)
     same-passes (verifyN1ToS1 s) on e = rw e (octet-same (octetFound x s))
       where
+        far-same : (c : ℕ) → verifyValues (octetAs y s c) ≡ verifyValues (octetAs x s c)
+        far-same c = ap (λ (r : Record). verifyValues (verify.Verified c (distanceOf r c))) e
+
         octet-same : (o : Opening)
-            → Same (outcome useValues (received y containerPlace (octetRefused y s) (octetUsed y s) o))
-            (outcome useValues (received x containerPlace (octetRefused x s) (octetUsed x s) o))
+            → Same (outcome verifyValues (received y containerPlace (octetRefused y s) (octetUsed y s) o))
+            (outcome verifyValues (received x containerPlace (octetRefused x s) (octetUsed x s) o))
         octet-same None = (refl, refl)
         octet-same Wrong = (refl, refl)
-        octet-same (Late c) = (refl, refl)
-        octet-same (Forward c) = (refl, refl)
+        octet-same (Late c) = (far-same c, refl)
+        octet-same (Forward c) = (far-same c, refl)
     same-passes (makeS1ToN1 ncc ngksi out) on e = sends-same containerPlace (λ c. s1ToN1 (x .core) ncc ngksi) out e
     same-passes (verifyS1ToN1 v) on e = sends-same containerPlace (λ c. []) [] e
 

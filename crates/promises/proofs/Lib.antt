@@ -15,6 +15,7 @@ pub mod Accepting
 pub mod Demand3
 pub mod Delivery
 pub mod Null
+pub mod Skipped
 pub mod Isolation
 pub mod Tightness
 pub mod Lent

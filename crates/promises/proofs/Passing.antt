@@ -13,8 +13,9 @@ use Rattle.nas_5gs.specs.declared.UseAnswer.the-variants as use′
 use Rattle.nas_5gs.specs.declared.OpenAnswer.the-variants as open′
 use Rattle.nas_5gs.specs.declared.EpsOpenAnswer.the-variants as eps
 use Rattle.nas_5gs.specs.declared.OctetAnswer.the-variants as octet
+use Rattle.nas_5gs.specs.declared.VerifyAnswer.the-variants as verify
 use Rattle.nas_5gs.specs.Places.{directionNo, bearerNo, placeOf, nextAt}
-use Rattle.nas_5gs.specs.Leaves.{Leaves, leaves, useNext, received, Values, refusal, success, changeValues, useValues, openValues, epsOpenValues, octetValues}
+use Rattle.nas_5gs.specs.Leaves.{Leaves, leaves, useNext, received, Values, refusal, success, changeValues, useValues, openValues, epsOpenValues, octetValues, verifyValues}
 use Rattle.nas_5gs.specs.Changes.{coreWith, keptFor, reselectOf, resized, windowOf}
 use Rattle.nas_5gs.specs.Envelope.{envelope}
 use Rattle.nas_5gs.specs.Seal.{sent, sealOf, sealOpaqueOf}
@@ -37,7 +38,7 @@ passes (open5gs d k m out) x = outcome openValues (opened x (placeOf d k) (beare
 passes (sealEps inner out) x = sends x epsPlace (λ c. epsMessage (x .core) c inner) out
 passes (openEps m out) x = outcome epsOpenValues (epsOpened x m out)
 passes makeN1ToS1 x = outcome octetValues (lastOctet x (nextAt x containerPlace))
-passes (verifyN1ToS1 s) x = outcome useValues (received x containerPlace (octetRefused x s) (octetUsed x s) (octetFound x s))
+passes (verifyN1ToS1 s) x = outcome verifyValues (received x containerPlace (octetRefused x s) (octetUsed x s) (octetFound x s))
 passes (makeS1ToN1 ncc ngksi out) x = sends x containerPlace (λ c. s1ToN1 (x .core) ncc ngksi) out
 passes (verifyS1ToN1 v) x = sends x containerPlace (λ c. []) []
 
@@ -73,7 +74,7 @@ gives-is (openEps m out) x = split epsOpenValues (refusalOf (openEps m out) x) (
 gives-is makeN1ToS1 x =
     split octetValues (refusalOf makeN1ToS1 x) (λ j. leaves (octet.Refused j) x []) (lastOctet x (nextAt x containerPlace))
 gives-is (verifyN1ToS1 s) x =
-    split useValues (refusalOf (verifyN1ToS1 s) x) (λ j. leaves (use′.Refused j) x [])
+    split verifyValues (refusalOf (verifyN1ToS1 s) x) (λ j. leaves (verify.Refused j) x [])
     (received x containerPlace (octetRefused x s) (octetUsed x s) (octetFound x s))
 gives-is (makeS1ToN1 ncc ngksi out) x =
     split useValues (refusalOf (makeS1ToN1 ncc ngksi out) x) (λ j. leaves (use′.Refused j) x out)

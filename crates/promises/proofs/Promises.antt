@@ -5,6 +5,7 @@ use Rattle.promises.proofs.Accepting.{demand2}
 use Rattle.promises.proofs.Demand3.{keeps}
 use Rattle.promises.proofs.Delivery.{delivery}
 use Rattle.promises.proofs.Null.{null-holds}
+use Rattle.promises.proofs.Skipped.{skipped}
 use Rattle.promises.proofs.Isolation.{apart, isolation}
 use Rattle.promises.proofs.Tightness.{only-one, tightness}
 
@@ -20,6 +21,7 @@ promises =
       demand3 = keeps;
       delivery = delivery;
       null-integrity = null-holds;
+      skipped = skipped;
       apart = apart;
       isolation = isolation;
       only-one = only-one;

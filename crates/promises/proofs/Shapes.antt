@@ -9,7 +9,7 @@ use lib.ListN.{length, getD, set, drop}
 use lib.Dec.{eqb, ltb}
 use Rattle.count.specs.declared.Record.{Record}
 use Rattle.count.specs.declared.Opening.{Opening}
-use Rattle.count.specs.Rule.{resizeOf, closeOf, useLate, forwardOnly}
+use Rattle.count.specs.Rule.{resizeOf, closeOf, useLate, forwardOnly, distanceOf}
 use Rattle.count.specs.Run.{Act, stay, resize, close, act, actOf, used}
 use borrow.Author.Tests.{eqb-true}
 use Rattle.count.specs.Machine.{recordsAfter}
@@ -21,15 +21,16 @@ use Rattle.nas_core.specs.Verify.{verifyOf, advanced}
 use Rattle.look.specs.Look.{lookOf}
 use Rattle.nas_5gs.specs.declared.Context.{Context}
 use Rattle.nas_5gs.specs.declared.ChangeAnswer.the-variants as change
-use Rattle.nas_5gs.specs.declared.UseAnswer.{UseAnswer}
 use Rattle.nas_5gs.specs.declared.UseAnswer.the-variants as use′
 use Rattle.nas_5gs.specs.declared.OpenAnswer.{OpenAnswer}
 use Rattle.nas_5gs.specs.declared.OpenAnswer.the-variants as open′
 use Rattle.nas_5gs.specs.declared.EpsOpenAnswer.{EpsOpenAnswer}
 use Rattle.nas_5gs.specs.declared.EpsOpenAnswer.the-variants as eps
 use Rattle.nas_5gs.specs.declared.OctetAnswer.the-variants as octet
+use Rattle.nas_5gs.specs.declared.VerifyAnswer.{VerifyAnswer}
+use Rattle.nas_5gs.specs.declared.VerifyAnswer.the-variants as verify
 use Rattle.nas_5gs.specs.Places.{directionNo, bearerNo, placeOf, four, recordAt, nextAt, faultOf, used as usedAhead, usedLate}
-use Rattle.nas_5gs.specs.Leaves.{Leaves, leaves, over, useNext, received, refusal, changeValues, useValues, openValues, epsOpenValues, octetValues}
+use Rattle.nas_5gs.specs.Leaves.{Leaves, leaves, over, useNext, received, refusal, changeValues, useValues, openValues, epsOpenValues, octetValues, verifyValues}
 use Rattle.nas_5gs.specs.Changes.{coreWith, closed, keptFor, reselectOf, windowOf, resized}
 use Rattle.nas_5gs.specs.Envelope.{ciphers, envelope}
 use Rattle.nas_5gs.specs.Seal.{sealRefusal, opaqueRefusal, sent, sealOf, sealOpaqueOf}
@@ -117,13 +118,13 @@ resize-four f none (a ∷ b ∷ c ∷ []) h = absurd (omega arith)
 resize-four f none (a ∷ b ∷ c ∷ d ∷ []) h = refl
 resize-four f none (a ∷ b ∷ c ∷ d ∷ e ∷ l) h = absurd (omega arith)
 
-open-counts : (c w t n : ℕ) (b : Bool) → usedBy (openValues (cond b (open′.Accepted c w t) (open′.Content c w t n))) ≡ c ∷ []
-open-counts c w t n true = refl
-open-counts c w t n false = refl
+open-counts : (c f w t n : ℕ) (b : Bool) → usedBy (openValues (cond b (open′.Accepted c f w t) (open′.Content c f w t n))) ≡ c ∷ []
+open-counts c f w t n true = refl
+open-counts c f w t n false = refl
 
-eps-counts : (c w : ℕ) (b : Bool) → usedBy (epsOpenValues (cond b (eps.Content c w 12) (eps.Accepted c w))) ≡ c ∷ []
-eps-counts c w true = refl
-eps-counts c w false = refl
+eps-counts : (c f w : ℕ) (b : Bool) → usedBy (epsOpenValues (cond b (eps.Content c f w 12) (eps.Accepted c f w))) ≡ c ∷ []
+eps-counts c f w true = refl
+eps-counts c f w false = refl
 
 sends : (x : Context) (p n : ℕ) (made : ℕ → List ℕ) (out : List ℕ)
     → Acts x p (unless n (next x p)) (outcome useValues (refusedOr n (λ k. leaves (use′.Refused k) x out) (useNext x p made out)))
@@ -154,7 +155,7 @@ module _ (x : Context) (p b d : ℕ) (m out : List ℕ) where
   look c = lookOf (typeOf m) d (plain c)
 
   abbrev pub openedAs : ℕ → OpenAnswer
-  openedAs c = openAnswer c (length (plain c)) (typeOf m) (look c)
+  openedAs c = openAnswer c (distanceOf (recordAt x p) c) (length (plain c)) (typeOf m) (look c)
 
   abbrev notOpened : ℕ → Leaves OpenAnswer
   notOpened k = leaves (open′.Refused k) x out
@@ -163,13 +164,13 @@ module _ (x : Context) (p b d : ℕ) (m out : List ℕ) where
   open-refused k = refused holding x p (refusal k) out refl
 
   as-counted : (c : ℕ) → usedBy (openValues (openedAs c)) ≡ c ∷ []
-  as-counted c = open-counts c (length (plain c)) (typeOf m) (look c) (eqb (look c) 0)
+  as-counted c = open-counts c (distanceOf (recordAt x p) c) (length (plain c)) (typeOf m) (look c) (eqb (look c) 0)
 
   open-acts : (n : ℕ) → Acts x p (unless n (actOf (wraps (x .core)) found)) (outcome openValues (refusedOr n notOpened (opened x p b d m out)))
   unfolding opened handed
   open-acts n =
       first-refused holding x p openValues n notOpened (opened x p b d m out) (actOf (wraps (x .core)) found) open-refused
-      (by-opening holding x p openValues notOpened (λ c y. handed (typeOf m) d (plain c) out c y) found open-refused
+      (by-opening holding x p openValues notOpened (λ c y. handed (typeOf m) d (plain c) out c (distanceOf (recordAt x p) c) y) found open-refused
       (λ c. ahead holding x p (openValues (openedAs c)) c (over (plain c) out) (as-counted c))
       (λ c. below holding x p (openValues (openedAs c)) c (over (plain c) out) (as-counted c)))
 
@@ -179,7 +180,7 @@ module _ (x : Context) (m out : List ℕ) where
   epsFound = verifyOf (x .core) (recordAt x epsPlace) epsBearer epsDirection 1 m
 
   abbrev pub epsAs : ℕ → EpsOpenAnswer
-  epsAs c = epsAnswer c (length (drop 6 m)) (notEps (drop 6 m))
+  epsAs c = epsAnswer c (distanceOf (recordAt x epsPlace) c) (length (drop 6 m)) (notEps (drop 6 m))
 
   abbrev epsNotOpened : ℕ → Leaves EpsOpenAnswer
   epsNotOpened k = leaves (eps.Refused k) x out
@@ -188,13 +189,13 @@ module _ (x : Context) (m out : List ℕ) where
   eps-refused k = refused holding x epsPlace (refusal k) out refl
 
   eps-counted : (c : ℕ) → usedBy (epsOpenValues (epsAs c)) ≡ c ∷ []
-  eps-counted c = eps-counts c (length (drop 6 m)) (notEps (drop 6 m))
+  eps-counted c = eps-counts c (distanceOf (recordAt x epsPlace) c) (length (drop 6 m)) (notEps (drop 6 m))
 
   eps-acts : (n : ℕ) → Acts x epsPlace (unless n (actOf (wraps (x .core)) epsFound)) (outcome epsOpenValues (refusedOr n epsNotOpened (epsOpened x m out)))
   unfolding epsOpened epsHanded
   eps-acts n =
       first-refused holding x epsPlace epsOpenValues n epsNotOpened (epsOpened x m out) (actOf (wraps (x .core)) epsFound) eps-refused
-      (by-opening holding x epsPlace epsOpenValues epsNotOpened (λ c y. epsHanded (drop 6 m) out c y) epsFound eps-refused
+      (by-opening holding x epsPlace epsOpenValues epsNotOpened (λ c y. epsHanded (drop 6 m) out c (distanceOf (recordAt x epsPlace) c) y) epsFound eps-refused
       (λ c. ahead holding x epsPlace (epsOpenValues (epsAs c)) c (over (drop 6 m) out) (eps-counted c))
       (λ c. below holding x epsPlace (epsOpenValues (epsAs c)) c (over (drop 6 m) out) (eps-counted c)))
 
@@ -203,23 +204,26 @@ module _ (x : Context) (s : ℕ) where
   abbrev pub octetFound : Opening
   octetFound = forwardOnly 8 (wraps (x .core)) (λ c. true) (recordAt x containerPlace) s
 
-  abbrev pub octetRefused : ℕ → Leaves UseAnswer
-  octetRefused k = leaves (use′.Refused k) x []
+  abbrev pub octetRefused : ℕ → Leaves VerifyAnswer
+  octetRefused k = leaves (verify.Refused k) x []
 
-  abbrev pub octetUsed : ℕ → Context → Leaves UseAnswer
-  octetUsed c y = leaves (use′.Used c 0) y []
+  abbrev pub octetAs : ℕ → VerifyAnswer
+  octetAs c = verify.Verified c (distanceOf (recordAt x containerPlace) c)
 
-  octet-refused : (k : ℕ) → Acts x containerPlace stay (outcome useValues (octetRefused k))
+  abbrev pub octetUsed : ℕ → Context → Leaves VerifyAnswer
+  octetUsed c y = leaves (octetAs c) y []
+
+  octet-refused : (k : ℕ) → Acts x containerPlace stay (outcome verifyValues (octetRefused k))
   octet-refused k = refused holding x containerPlace (refusal k) [] refl
 
   octet-acts : Acts x containerPlace (does (verifyN1ToS1 s) x) (gives (verifyN1ToS1 s) x)
   unfolding verifyN1ToS1Of
   octet-acts =
-      first-refused holding x containerPlace useValues (faultOf x) octetRefused (received x containerPlace octetRefused octetUsed octetFound)
+      first-refused holding x containerPlace verifyValues (faultOf x) octetRefused (received x containerPlace octetRefused octetUsed octetFound)
       (actOf (wraps (x .core)) octetFound) octet-refused
-      (by-opening holding x containerPlace useValues octetRefused octetUsed octetFound octet-refused
-      (λ c. ahead holding x containerPlace (useValues (use′.Used c 0)) c [] refl)
-      (λ c. below holding x containerPlace (useValues (use′.Used c 0)) c [] refl))
+      (by-opening holding x containerPlace verifyValues octetRefused octetUsed octetFound octet-refused
+      (λ c. ahead holding x containerPlace (verifyValues (octetAs c)) c [] refl)
+      (λ c. below holding x containerPlace (verifyValues (octetAs c)) c [] refl))
 
 made-acts : (x : Context) → Acts x containerPlace (does makeN1ToS1 x) (gives makeN1ToS1 x)
 unfolding n1ToS1Of

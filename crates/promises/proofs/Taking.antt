@@ -9,7 +9,7 @@ use lib.ListN.{length, getD, drop}
 use lib.Dec.{eqb}
 use borrow.Author.Tests.{eq-eqb, ne-eqb, le-ltb}
 use Rattle.count.specs.declared.Opening.{Opening}
-use Rattle.count.specs.Rule.{exhausted, opening}
+use Rattle.count.specs.Rule.{exhausted, distanceOf, opening}
 use Rattle.nas_core.specs.declared.Core.{Core}
 use Rattle.nas_core.specs.Keyed.{wraps, payload}
 use Rattle.nas_core.specs.Refusals.{limit, unbuilt, coreFault}
@@ -61,8 +61,8 @@ module _ (x : Context) (p b d : ℕ) (m out : List ℕ) where
       answer : ℕ → Bool → Values
       answer c t =
           openValues (
-          cond t (open′.Accepted c (length (plain x p b d m out c)) (typeOf m))
-          (open′.Content c (length (plain x p b d m out c)) (typeOf m) (look x p b d m out c)))
+          cond t (open′.Accepted c (distanceOf (recordAt x p) c) (length (plain x p b d m out c)) (typeOf m))
+          (open′.Content c (distanceOf (recordAt x p) c) (length (plain x p b d m out c)) (typeOf m) (look x p b d m out c)))
 
       go-uses : (c : ℕ) (t : Bool) → answer c t .uses ≡ true
       go-uses c true = refl
@@ -92,7 +92,7 @@ module _ (x : Context) (m out : List ℕ) where
       }
     where
       answer : ℕ → Bool → Values
-      answer c t = epsOpenValues (cond t (eps.Content c (length (drop 6 m)) 12) (eps.Accepted c (length (drop 6 m))))
+      answer c t = epsOpenValues (cond t (eps.Content c (distanceOf (recordAt x epsPlace) c) (length (drop 6 m)) 12) (eps.Accepted c (distanceOf (recordAt x epsPlace) c) (length (drop 6 m))))
 
       go-uses : (c : ℕ) (t : Bool) → answer c t .uses ≡ true
       go-uses c true = refl

@@ -32,10 +32,12 @@ use Rattle.nas_5gs.specs.declared.EpsOpenAnswer.{EpsOpenAnswer}
 use Rattle.nas_5gs.specs.declared.EpsOpenAnswer.the-variants as eps
 use Rattle.nas_5gs.specs.declared.OctetAnswer.{OctetAnswer}
 use Rattle.nas_5gs.specs.declared.OctetAnswer.the-variants as octet
+use Rattle.nas_5gs.specs.declared.VerifyAnswer.{VerifyAnswer}
+use Rattle.nas_5gs.specs.declared.VerifyAnswer.the-variants as verify
 use Rattle.nas_5gs.specs.declared.Direction.the-variants.{Uplink}
 use Rattle.nas_5gs.specs.declared.Connection.the-variants.{ThreeGpp}
 use Rattle.nas_5gs.specs.Places.{placeOf, recordAt, nextAt}
-use Rattle.nas_5gs.specs.Leaves.{Leaves, leaves, Values, changeValues, useValues, openValues, epsOpenValues, octetValues}
+use Rattle.nas_5gs.specs.Leaves.{Leaves, leaves, Values, changeValues, useValues, openValues, epsOpenValues, octetValues, verifyValues}
 use Rattle.nas_5gs.specs.Changes.{contextWith, resized, newOf}
 use Rattle.nas_5gs.specs.Envelope.{envelope}
 use Rattle.promises.specs.Calls.{Call, setWindow, seal5gs, sealOpaque, open5gs, sealEps, openEps, makeN1ToS1, verifyN1ToS1, makeS1ToN1, verifyS1ToN1, reselect, Making, Outcome, outcome, gives, makes, usedBy, contextAfter, countsUsed}
@@ -68,22 +70,22 @@ use-back (use′.Used c w) = refl
 abbrev openRead : Values → OpenAnswer
 openRead v =
     cond (v .uses)
-    (cond (v .refused) (open′.Content (v .count) (v .wrote) (v .header) (v .carried)) (open′.Accepted (v .count) (v .wrote) (v .header)))
+    (cond (v .refused) (open′.Content (v .count) (v .distance) (v .wrote) (v .header) (v .carried)) (open′.Accepted (v .count) (v .distance) (v .wrote) (v .header)))
     (open′.Refused (v .number))
 
 open-back : (a : OpenAnswer) → openRead (openValues a) ≡ a
 open-back (open′.Refused n) = refl
-open-back (open′.Accepted c w t) = refl
-open-back (open′.Content c w t n) = refl
+open-back (open′.Accepted c f w t) = refl
+open-back (open′.Content c f w t n) = refl
 
 abbrev epsRead : Values → EpsOpenAnswer
 epsRead v =
-    cond (v .uses) (cond (v .refused) (eps.Content (v .count) (v .wrote) (v .carried)) (eps.Accepted (v .count) (v .wrote))) (eps.Refused (v .number))
+    cond (v .uses) (cond (v .refused) (eps.Content (v .count) (v .distance) (v .wrote) (v .carried)) (eps.Accepted (v .count) (v .distance) (v .wrote))) (eps.Refused (v .number))
 
 eps-back : (a : EpsOpenAnswer) → epsRead (epsOpenValues a) ≡ a
 eps-back (eps.Refused n) = refl
-eps-back (eps.Accepted c w) = refl
-eps-back (eps.Content c w n) = refl
+eps-back (eps.Accepted c f w) = refl
+eps-back (eps.Content c f w n) = refl
 
 abbrev octetRead : Values → OctetAnswer
 octetRead v = cond (v .refused) (octet.Refused (v .number)) (octet.Made (v .count) (v .octet))
@@ -91,6 +93,13 @@ octetRead v = cond (v .refused) (octet.Refused (v .number)) (octet.Made (v .coun
 octet-back : (a : OctetAnswer) → octetRead (octetValues a) ≡ a
 octet-back (octet.Refused n) = refl
 octet-back (octet.Made c o) = refl
+
+abbrev verifyRead : Values → VerifyAnswer
+verifyRead v = cond (v .refused) (verify.Refused (v .number)) (verify.Verified (v .count) (v .distance))
+
+verify-back : (a : VerifyAnswer) → verifyRead (verifyValues a) ≡ a
+verify-back (verify.Refused n) = refl
+verify-back (verify.Verified c f) = refl
 
 -- so an outcome fixes what was left
 module _ {A : Type 0} (v : A → Values) (read : Values → A) (back : (a : A) → read (v a) ≡ a) where
@@ -117,7 +126,7 @@ one-only (open5gs d k m out) x = one-left openValues openRead open-back (gives (
 one-only (sealEps inner out) x = one-used (gives (sealEps inner out) x)
 one-only (openEps m out) x = one-left epsOpenValues epsRead eps-back (gives (openEps m out) x)
 one-only makeN1ToS1 x = one-left octetValues octetRead octet-back (gives makeN1ToS1 x)
-one-only (verifyN1ToS1 s) x = one-used (gives (verifyN1ToS1 s) x)
+one-only (verifyN1ToS1 s) x = one-left verifyValues verifyRead verify-back (gives (verifyN1ToS1 s) x)
 one-only (makeS1ToN1 ncc ngksi out) x = one-used (gives (makeS1ToN1 ncc ngksi out) x)
 one-only (verifyS1ToN1 v) x = one-used (gives (verifyS1ToN1 v) x)
 one-only (reselect i c ik ck) x = one-changed (gives (reselect i c ik ck) x)

@@ -8,7 +8,7 @@ use Rattle.nas_5gs.specs.declared.Context.{Context}
 use Rattle.nas_5gs.specs.declared.Direction.{Direction}
 use Rattle.nas_5gs.specs.declared.Connection.{Connection}
 use Rattle.nas_5gs.specs.Places.{placeOf, nextAt}
-use Rattle.nas_5gs.specs.Leaves.{changeValues, useValues, openValues, epsOpenValues, octetValues}
+use Rattle.nas_5gs.specs.Leaves.{changeValues, useValues, openValues, epsOpenValues, octetValues, verifyValues}
 use Rattle.nas_5gs.specs.Changes.{newOf, restoreOf, reselectOf, windowOf}
 use Rattle.nas_5gs.specs.Seal.{sealOf, sealOpaqueOf}
 use Rattle.nas_5gs.specs.Open.{openOf}
@@ -59,7 +59,7 @@ gives (open5gs d k m out) x = outcome openValues (openOf x d k m out)
 gives (sealEps inner out) x = outcome useValues (sealEpsOf x inner out)
 gives (openEps m out) x = outcome epsOpenValues (openEpsOf x m out)
 gives makeN1ToS1 x = outcome octetValues (n1ToS1Of x)
-gives (verifyN1ToS1 s) x = outcome useValues (verifyN1ToS1Of x s)
+gives (verifyN1ToS1 s) x = outcome verifyValues (verifyN1ToS1Of x s)
 gives (makeS1ToN1 ncc ngksi out) x = outcome useValues (s1ToN1Of x ncc ngksi out)
 gives (verifyS1ToN1 v) x = outcome useValues (verifyS1ToN1Of x v)
 

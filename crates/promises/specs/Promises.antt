@@ -8,6 +8,7 @@ use Rattle.promises.specs.Demand2.{Demand2}
 use Rattle.promises.specs.Demand3.{Keeps}
 use Rattle.promises.specs.Delivery.{Delivery}
 use Rattle.promises.specs.Null.{NullHolds}
+use Rattle.promises.specs.Skipped.{Skipped}
 use Rattle.promises.specs.Isolation.{Apart, Isolation}
 use Rattle.promises.specs.Tightness.{OnlyOne, Tightness}
 
@@ -21,6 +22,7 @@ pub record Promises : Type 1 where
   pub demand3 : Keeps gives
   pub delivery : Delivery
   pub null-integrity : NullHolds
+  pub skipped : Skipped
   pub apart : Apart
   pub isolation : Isolation
   pub only-one : OnlyOne

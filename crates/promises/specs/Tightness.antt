@@ -18,7 +18,8 @@ use Rattle.nas_5gs.specs.declared.UseAnswer.{UseAnswer}
 use Rattle.nas_5gs.specs.declared.OpenAnswer.{OpenAnswer}
 use Rattle.nas_5gs.specs.declared.EpsOpenAnswer.{EpsOpenAnswer}
 use Rattle.nas_5gs.specs.declared.OctetAnswer.{OctetAnswer}
-use Rattle.nas_5gs.specs.Leaves.{Leaves, Values, changeValues, useValues, openValues, epsOpenValues, octetValues}
+use Rattle.nas_5gs.specs.declared.VerifyAnswer.{VerifyAnswer}
+use Rattle.nas_5gs.specs.Leaves.{Leaves, Values, changeValues, useValues, openValues, epsOpenValues, octetValues, verifyValues}
 use Rattle.nas_5gs.specs.Envelope.{envelope}
 use Rattle.promises.specs.Calls.{Call, setWindow, seal5gs, sealOpaque, open5gs, sealEps, openEps, makeN1ToS1, verifyN1ToS1, makeS1ToN1, verifyS1ToN1, reselect, Making, Outcome, outcome, gives, makes, contextAfter}
 use Rattle.promises.specs.Words.{Uses}
@@ -35,7 +36,7 @@ AnswerOf (open5gs d k m out) = OpenAnswer
 AnswerOf (sealEps inner out) = UseAnswer
 AnswerOf (openEps m out) = EpsOpenAnswer
 AnswerOf makeN1ToS1 = OctetAnswer
-AnswerOf (verifyN1ToS1 s) = UseAnswer
+AnswerOf (verifyN1ToS1 s) = VerifyAnswer
 AnswerOf (makeS1ToN1 ncc ngksi out) = UseAnswer
 AnswerOf (verifyS1ToN1 v) = UseAnswer
 AnswerOf (reselect i c ik ck) = ChangeAnswer
@@ -48,7 +49,7 @@ valuesOf (open5gs d k m out) = openValues
 valuesOf (sealEps inner out) = useValues
 valuesOf (openEps m out) = epsOpenValues
 valuesOf makeN1ToS1 = octetValues
-valuesOf (verifyN1ToS1 s) = useValues
+valuesOf (verifyN1ToS1 s) = verifyValues
 valuesOf (makeS1ToN1 ncc ngksi out) = useValues
 valuesOf (verifyS1ToN1 v) = useValues
 valuesOf (reselect i c ik ck) = changeValues

@@ -31,7 +31,7 @@ returns-6 c = (rw (c .before .before .before .before .before .before .before .be
 
 returns-7 : tie.Need-returns-7
 unfolding answerText
-returns-7 c = (rw (c .before .before .before .before .before .before .before .before .before .before .before .before .before .answer4 .given .1) (laws.behind (laws.behind (c .before .before .before .before .before .before .before .before .before .before .success3 .ensures .0) (c .before .before .before .before .before .before .word2 .ensures .0)) (c .before .before .octets3 .ensures .0)), omega (arith, c .before .before .octets3 .ensures .1, c .before .before .before .before .before .before .word2 .ensures .1, c .before .before .before .before .before .before .before .before .before .before .success3 .ensures .1))
+returns-7 c = (rw (c .before .before .before .before .before .before .before .before .before .before .before .before .before .answer4 .given .1) (laws.behind (laws.behind (c .before .before .before .before .before .before .before .before .before .before .accepted .ensures .0) (c .before .before .before .before .before .before .word2 .ensures .0)) (c .before .before .octets3 .ensures .0)), omega (arith, c .before .before .octets3 .ensures .1, c .before .before .before .before .before .before .word2 .ensures .1, c .before .before .before .before .before .before .before .before .before .before .accepted .ensures .1))
 
 returns-8 : tie.Need-returns-8
 unfolding answerText
@@ -41,17 +41,11 @@ returns-9 : tie.Need-returns-9
 unfolding answerText
 returns-9 c = (rw (c .before .before .before .before .before .before .before .before .before .before .before .before .before .answer6 .given .1) (laws.behind (laws.behind (c .before .before .before .before .before .before .before .before .before .before .content2 .ensures .0) (c .before .before .before .before .before .before .decimal2 .ensures .0)) (c .before .before .octets5 .ensures .0)), omega (arith, c .before .before .octets5 .ensures .1, c .before .before .before .before .before .before .decimal2 .ensures .1, c .before .before .before .before .before .before .before .before .before .before .content2 .ensures .1))
 
+returns-10 : tie.Need-returns-10
+unfolding answerText
+returns-10 c = (rw (c .before .before .before .before .before .before .before .before .before .answer7 .given .1) (laws.behind (c .before .before .before .before .before .before .accepted2 .ensures .0) (c .before .before .octets6 .ensures .0)), omega (arith, c .before .before .octets6 .ensures .1, c .before .before .before .before .before .before .accepted2 .ensures .1))
+
 pub answer-text-spec : {M : Type 1} → statement M
 answer-text-spec =
     tie.close
-    (tie.spec
-    (λ c. search needs) (λ c. search needs) (λ c κs. search needs) (λ c. search needs) (λ c. search needs)
-    (λ c κs. search needs) (λ c. search needs) (λ c κs. search needs) (λ c. search needs) (λ c κs. search needs)
-    (λ c. search needs) (λ c κs. search needs) (λ c κs. search needs) (λ c. search needs) (λ c κs. search needs)
-    (λ c. search needs) (λ c κs. search needs) (λ c. search needs) (λ c κs. search needs) (λ c. search needs)
-    (λ c κs. search needs) (λ c. search needs) (λ c κs. search needs) (λ c κs. search needs) (λ c. search needs)
-    (λ c κs. search needs) (λ c. search needs) (λ c κs. search needs) (λ c κs. search needs) (λ c κs. search needs)
-    (λ c. search needs) (λ c κs. search needs) (λ c κs. search needs) (λ c κs. search needs) (λ c. search needs)
-    returns (λ c. search needs) returns-2 (λ c. search needs) returns-3 (λ c. search needs) returns-4
-    (λ c. search needs) returns-5 (λ c. search needs) returns-6 (λ c. search needs) returns-7 (λ c. search needs)
-    returns-8 (λ c. search needs) returns-9)
+    (tie.spec (λ c. search needs) (λ c. search needs) (λ c κs. search needs) (λ c. search needs) (λ c. search needs) (λ c κs. search needs) (λ c. search needs) (λ c κs. search needs) (λ c. search needs) (λ c κs. search needs) (λ c. search needs) (λ c κs. search needs) (λ c κs. search needs) (λ c. search needs) (λ c κs. search needs) (λ c. search needs) (λ c κs. search needs) (λ c. search needs) (λ c κs. search needs) (λ c. search needs) (λ c κs. search needs) (λ c. search needs) (λ c κs. search needs) (λ c κs. search needs) (λ c. search needs) (λ c κs. search needs) (λ c. search needs) (λ c κs. search needs) (λ c κs. search needs) (λ c κs. search needs) (λ c. search needs) (λ c κs. search needs) (λ c κs. search needs) (λ c κs. search needs) (λ c. search needs) (λ c κs. search needs) (λ c κs. search needs) (λ c. search needs) returns (λ c. search needs) returns-2 (λ c. search needs) returns-3 (λ c. search needs) returns-4 (λ c. search needs) returns-5 (λ c. search needs) returns-6 (λ c. search needs) returns-7 (λ c. search needs) returns-8 (λ c. search needs) returns-9 (λ c. search needs) returns-10)

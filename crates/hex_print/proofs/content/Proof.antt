@@ -7,7 +7,7 @@ use Rattle.hex_print.proofs.content.Tie as tie
 
 returns : tie.Need-returns
 unfolding contentText
-returns c = (laws.behind (c .before .before .before .before .before .before .refusal .ensures .0) (c .before .before .used .ensures .0), omega (arith, c .before .before .used .ensures .1, c .before .before .before .before .before .before .refusal .ensures .1))
+returns c = (laws.behind (c .before .before .before .before .before .before .refusal .ensures .0) (c .before .before .received .ensures .0), omega (arith, c .before .before .received .ensures .1, c .before .before .before .before .before .before .refusal .ensures .1))
 
 pub content-spec : {M : Type 1} → statement M
 content-spec =

@@ -23,21 +23,21 @@ many c =
     let a = c .before .before .before .before .args in
     sym (payload-length (a .self .core) (a .count) (a .bearer) (a .direction) (drop 7 (a .message .now)) (ciphers (a .header-type)) ∙ length-drop 7 (a .message .now))
 
-accepted : (t d c n k : ℕ) (next : Context) (o p out : List ℕ) → o ≡ p ++ drop (length p) out → n ≡ length p → k ≡ lookOf t d p → k ≡ 0
-    → leaves (Accepted c n t) next o ≡ handed t d p out c next
+accepted : (t d c f n k : ℕ) (next : Context) (o p out : List ℕ) → o ≡ p ++ drop (length p) out → n ≡ length p → k ≡ lookOf t d p → k ≡ 0
+    → leaves (Accepted c f n t) next o ≡ handed t d p out c f next
 unfolding handed
-accepted t d c n k next o p out y l s z = simp (y, l, eq-eqb _ _ (sym s ∙ z))
+accepted t d c f n k next o p out y l s z = simp (y, l, eq-eqb _ _ (sym s ∙ z))
 
-content : (t d c n k : ℕ) (next : Context) (o p out : List ℕ) → o ≡ p ++ drop (length p) out → n ≡ length p → k ≡ lookOf t d p → (k ≡ 0 → ⊥)
-    → leaves (Content c n t k) next o ≡ handed t d p out c next
+content : (t d c f n k : ℕ) (next : Context) (o p out : List ℕ) → o ≡ p ++ drop (length p) out → n ≡ length p → k ≡ lookOf t d p → (k ≡ 0 → ⊥)
+    → leaves (Content c f n t k) next o ≡ handed t d p out c f next
 unfolding handed
-content t d c n k next o p out y l s z = simp (y, l, s, ne-eqb _ _ (λ e. z (s ∙ e)))
+content t d c f n k next o p out y l s z = simp (y, l, s, ne-eqb _ _ (λ e. z (s ∙ e)))
 
 returns : tie.Need-returns
-returns c = accepted _ _ _ _ _ _ _ _ _ (c .before .before .before .read .ensures .0) (many (c .before .before .before)) (c .before .before .before .read .ensures .1) (c .if1 .taken)
+returns c = accepted _ _ _ _ _ _ _ _ _ _ (c .before .before .before .read .ensures .0) (many (c .before .before .before)) (c .before .before .before .read .ensures .1) (c .if1 .taken)
 
 returns-2 : tie.Need-returns-2
-returns-2 c = content _ _ _ _ _ _ _ _ _ (c .before .before .before .read .ensures .0) (many (c .before .before .before)) (c .before .before .before .read .ensures .1) (c .if1 .left)
+returns-2 c = content _ _ _ _ _ _ _ _ _ _ (c .before .before .before .read .ensures .0) (many (c .before .before .before)) (c .before .before .before .read .ensures .1) (c .if1 .left)
 
 pub hand-spec : {M : Type 1} → statement M
 hand-spec =

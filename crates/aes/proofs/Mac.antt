@@ -11,7 +11,7 @@ use lib.ListN.{length, take, drop, getD, replicate, length-append, length-take, 
 use lib.Seq.{ext-getD, getD-append-add, getD-at, getD-take, getD-drop, drop-append-le, take-all}
 use borrow.Author.Tests.{eq-eqb, ne-eqb}
 use Rattle.aes.specs.Octets.{sixteen, xor}
-use Rattle.aes.specs.Cmac.{block, lastBlock, chain, cmacAt, cmacOf, subkey1, subkey2}
+use Rattle.aes.specs.Cmac.{block, lastBlock, chain, cmacAt, cmacBy}
 use Rattle.aes.proofs.Tables.{table-at}
 
 -- octet i of a head h, a message m and what follows them
@@ -74,18 +74,18 @@ module _ (m : List ℕ) (n : ℕ) (inside : n * 16 ≤ length m) where
       sym (getD-take 16 (l ++ 128 ∷ replicate 15 0) j 0 q)))
 
 -- the end of the CMAC, from what the blocks before the last have made
-pub mac-end : (ciph : List ℕ → List ℕ) (m : List ℕ) (n : ℕ) → n ≡ (length m - 1) / 16
-    → ciph (xor (chain ciph m n) (cond (eqb (length m - n * 16) 16) (xor (subkey1 ciph) (window m (n * 16))) (xor (subkey2 ciph) (window m (n * 16)))))
-    ≡ cmacOf ciph m
-unfolding cmacOf cmacAt lastBlock
-mac-end ciph m n e = go (ℕ-discrete (length m - n * 16) 16)
+pub mac-end : (ciph : List ℕ → List ℕ) (k1 k2 m : List ℕ) (n : ℕ) → n ≡ (length m - 1) / 16
+    → ciph (xor (chain ciph m n) (cond (eqb (length m - n * 16) 16) (xor k1 (window m (n * 16))) (xor k2 (window m (n * 16)))))
+    ≡ cmacBy ciph k1 k2 m
+unfolding cmacBy cmacAt lastBlock
+mac-end ciph k1 k2 m n e = go (ℕ-discrete (length m - n * 16) 16)
   where
     inside : n * 16 ≤ length m
     inside = omega arith
 
     go : Dec (length m - n * 16 ≡ 16)
-        → ciph (xor (chain ciph m n) (cond (eqb (length m - n * 16) 16) (xor (subkey1 ciph) (window m (n * 16))) (xor (subkey2 ciph) (window m (n * 16)))))
-        ≡ cmacOf ciph m
+        → ciph (xor (chain ciph m n) (cond (eqb (length m - n * 16) 16) (xor k1 (window m (n * 16))) (xor k2 (window m (n * 16)))))
+        ≡ cmacBy ciph k1 k2 m
     go (yes s) =
         let l : length (block m n) ≡ 16 = unfold block in simp (length-take, length-drop) (omega arith) in
         rw (← e, eq-eqb _ _ s, eq-eqb _ _ l, whole m n inside (omega arith))

@@ -7,7 +7,7 @@ ghost use lib.ListN.{getD};
 ghost use Rattle.aes.specs.Octets.{sixteen, xor};
 ghost use Rattle.aes.specs.Field.{sboxTable};
 ghost use Rattle.aes.specs.Cipher.{cipher};
-ghost use Rattle.aes.specs.Cmac.{shiftLeft, double as doubleOf, subkey1, subkey2, cmacOf};
+ghost use Rattle.aes.specs.Cmac.{shiftLeft, double as doubleOf, subkey1, cmacBy, cmacOf};
 use crate::cipher::encrypt_with;
 use crate::sbox::sbox_table;
 
@@ -65,7 +65,7 @@ fn shift_left(x: [u8; 16]) -> [u8; 16]
     ]
 }
 
-fn double(x: [u8; 16]) -> [u8; 16]
+pub fn double(x: [u8; 16]) -> [u8; 16]
     ensures { λ r. ⌜ r ≡ doubleOf x ⌝ }
 {
     if x[0] < 128 {
@@ -115,7 +115,7 @@ fn block_at(head: &[u8], message: &[u8], k: usize) -> [u8; 16]
     ]
 }
 
-fn subkey(table: &[u8; 256], w: &[u8; 176]) -> [u8; 16]
+pub fn subkey(table: &[u8; 256], w: &[u8; 176]) -> [u8; 16]
     requires { ⌜ now table ≡ sboxTable ⌝ }
     ensures { λ r. ⌜ r ≡ subkey1 (cipher (now (w .entry))) ⌝ }
 {
@@ -123,15 +123,13 @@ fn subkey(table: &[u8; 256], w: &[u8; 176]) -> [u8; 16]
 }
 
 // The last block with the subkey for a whole one, or for one that was padded.
-fn keyed_block(table: &[u8; 256], w: &[u8; 176], b: [u8; 16], whole: bool) -> [u8; 16]
-    requires { ⌜ now table ≡ sboxTable ⌝ }
-    ensures { λ r. ⌜ r ≡ cond whole (xor (subkey1 (cipher (now (w .entry)))) b) (xor (subkey2 (cipher (now (w .entry)))) b) ⌝ }
+fn keyed_block(k1: [u8; 16], k2: [u8; 16], b: [u8; 16], whole: bool) -> [u8; 16]
+    ensures { λ r. ⌜ r ≡ cond whole (xor k1 b) (xor k2 b) ⌝ }
 {
-    let k = subkey(table, w);
     if whole {
-        xor_block(k, b)
+        xor_block(k1, b)
     } else {
-        xor_block(double(k), b)
+        xor_block(k2, b)
     }
 }
 
@@ -142,9 +140,16 @@ fn blocks_before_last(octets: usize) -> usize
     if octets == 0 { 0 } else { (octets - 1) / 16 }
 }
 
-pub fn cmac_with(table: &[u8; 256], w: &[u8; 176], head: &[u8], message: &[u8]) -> [u8; 16]
+pub fn cmac_with(
+    table: &[u8; 256],
+    w: &[u8; 176],
+    k1: [u8; 16],
+    k2: [u8; 16],
+    head: &[u8],
+    message: &[u8],
+) -> [u8; 16]
     requires { ⌜ now table ≡ sboxTable ⌝ }
-    ensures { λ r. ⌜ r ≡ cmacOf (cipher (now (w .entry))) (now (head .entry) ++ now (message .entry)) ⌝ }
+    ensures { λ r. ⌜ r ≡ cmacBy (cipher (now (w .entry))) k1 k2 (now (head .entry) ++ now (message .entry)) ⌝ }
 {
     let length = head.len() + message.len();
     let n = blocks_before_last(length);
@@ -157,7 +162,7 @@ pub fn cmac_with(table: &[u8; 256], w: &[u8; 176], head: &[u8], message: &[u8]) 
         done += 1;
     }
     let b = block_at(head, message, n * 16);
-    let last = keyed_block(table, w, b, length - n * 16 == 16);
+    let last = keyed_block(k1, k2, b, length - n * 16 == 16);
     encrypt_with(table, w, xor_block(x, last))
 }
 
@@ -166,5 +171,7 @@ pub fn cmac(w: &[u8; 176], head: &[u8], message: &[u8]) -> [u8; 16]
     ensures { λ r. ⌜ r ≡ cmacOf (cipher (now (w .entry))) (now (head .entry) ++ now (message .entry)) ⌝ }
 {
     let table = sbox_table();
-    cmac_with(&table, w, head, message)
+    let k1 = subkey(&table, w);
+    let k2 = double(k1);
+    cmac_with(&table, w, k1, k2, head, message)
 }

@@ -4,6 +4,7 @@ mod cmac_mode;
 mod columns;
 mod counter_mode;
 mod expansion;
+mod kept;
 mod nas;
 mod sbox;
 
@@ -13,3 +14,12 @@ pub use counter_mode::ctr;
 pub use expansion::expand_key;
 pub use nas::nea2;
 pub use nas::nia2;
+
+// A key with what it expands to. Only `Key::of` makes one: its fields are this crate's.
+#[repr(C)]
+pub struct Key {
+    octets: [u8; 16],
+    schedule: [u8; 176],
+    subkey1: [u8; 16],
+    subkey2: [u8; 16],
+}

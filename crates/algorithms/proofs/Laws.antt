@@ -7,7 +7,8 @@ use native.Mathlib.Omega.{arith}
 use lib.ListN.{length}
 use lib.Dec.{eqb}
 use borrow.Author.Tests.{eqb-true}
-use Rattle.aes.specs.Nas.{nia2Of, nea2Of}
+use Rattle.aes.specs.Keys.{nia2By, nea2By}
+use Rattle.aes.specs.declared.Key.{Key}
 use Rattle.aes.specs.Laws.{Octets}
 use Rattle.aes.proofs.Laws.{nia2-length, nia2-octets, nea2-length, nea2-octets, nea2-twice}
 use Rattle.algorithms.specs.Codes.{isBuilt, codeOf, cipherOf}
@@ -35,20 +36,20 @@ built-small n e = go (eqb n 0) refl
     go true q = omega (arith, eqb-true n 0 q)
     go false q = omega (arith, eqb-true n 2 (either (eqb n 0) (eqb n 2) e q))
 
-module _ (n : ℕ) (key : List ℕ) (c b d : ℕ) (m : List ℕ) where
+module _ (n : ℕ) (key : Key) (c b d : ℕ) (m : List ℕ) where
   pub code-length : length (codeOf n key c b d m) ≡ 4
   unfolding codeOf
   code-length = go (eqb n 2)
     where
-      go : (t : Bool) → length (cond t (nia2Of key c b d m) zeros) ≡ 4
+      go : (t : Bool) → length (cond t (nia2By key c b d m) zeros) ≡ 4
       go true = nia2-length key c b d m
       go false = refl
 
-  pub code-octets : Octets key → Octets (codeOf n key c b d m)
+  pub code-octets : Octets (key .schedule) → Octets (codeOf n key c b d m)
   unfolding codeOf
   code-octets k = go (eqb n 2)
     where
-      go : (t : Bool) → Octets (cond t (nia2Of key c b d m) zeros)
+      go : (t : Bool) → Octets (cond t (nia2By key c b d m) zeros)
       go true = nia2-octets key c b d m k
       go false = zeros-octets
 
@@ -56,15 +57,15 @@ module _ (n : ℕ) (key : List ℕ) (c b d : ℕ) (m : List ℕ) where
   unfolding cipherOf
   cipher-length = go (eqb n 2)
     where
-      go : (t : Bool) → length (cond t (nea2Of key c b d m) m) ≡ length m
+      go : (t : Bool) → length (cond t (nea2By key c b d m) m) ≡ length m
       go true = nea2-length key c b d m
       go false = refl
 
-  pub cipher-octets : Octets key → Octets m → Octets (cipherOf n key c b d m)
+  pub cipher-octets : Octets (key .schedule) → Octets m → Octets (cipherOf n key c b d m)
   unfolding cipherOf
   cipher-octets k h = go (eqb n 2)
     where
-      go : (t : Bool) → Octets (cond t (nea2Of key c b d m) m)
+      go : (t : Bool) → Octets (cond t (nea2By key c b d m) m)
       go true = nea2-octets key c b d m k h
       go false = h
 
@@ -72,6 +73,6 @@ module _ (n : ℕ) (key : List ℕ) (c b d : ℕ) (m : List ℕ) where
   unfolding cipherOf
   cipher-twice = go (eqb n 2)
     where
-      go : (t : Bool) → cond t (nea2Of key c b d (cond t (nea2Of key c b d m) m)) (cond t (nea2Of key c b d m) m) ≡ m
+      go : (t : Bool) → cond t (nea2By key c b d (cond t (nea2By key c b d m) m)) (cond t (nea2By key c b d m) m) ≡ m
       go true = nea2-twice key c b d m
       go false = refl

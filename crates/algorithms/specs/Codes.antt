@@ -4,15 +4,16 @@ use Prim.Native.Nat.{ℕ}
 use mathlib.Core.Bool.{Bool, cond, _||_}
 use mathlib.Core.List.{List, [], _∷_}
 use lib.Dec.{eqb}
-use Rattle.aes.specs.Nas.{nia2Of, nea2Of}
+use Rattle.aes.specs.Keys.{nia2By, nea2By}
+use Rattle.aes.specs.declared.Key.{Key}
 
 unfoldable pub isBuilt : ℕ → Bool
 isBuilt n = eqb n 0 || eqb n 2
 
 -- the code of a message, by key, COUNT, bearer and direction; null makes four zero octets
-unfoldable pub codeOf : ℕ → List ℕ → ℕ → ℕ → ℕ → List ℕ → List ℕ
-codeOf n key c b d m = cond (eqb n 2) (nia2Of key c b d m) (0 ∷ 0 ∷ 0 ∷ 0 ∷ [])
+unfoldable pub codeOf : ℕ → Key → ℕ → ℕ → ℕ → List ℕ → List ℕ
+codeOf n key c b d m = cond (eqb n 2) (nia2By key c b d m) (0 ∷ 0 ∷ 0 ∷ 0 ∷ [])
 
 -- the octets ciphered; null changes none
-unfoldable pub cipherOf : ℕ → List ℕ → ℕ → ℕ → ℕ → List ℕ → List ℕ
-cipherOf n key c b d m = cond (eqb n 2) (nea2Of key c b d m) m
+unfoldable pub cipherOf : ℕ → Key → ℕ → ℕ → ℕ → List ℕ → List ℕ
+cipherOf n key c b d m = cond (eqb n 2) (nea2By key c b d m) m

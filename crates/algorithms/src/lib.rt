@@ -1,6 +1,7 @@
 // An algorithm by its code (TS 24.501 Table 9.11.3.34.1): 0 is null and 2 is AES. Codes 1 and 3 take their place beside 2.
 ghost use mathlib.Core.Path.{_≡_};
 ghost use Rattle.algorithms.specs.Codes.{isBuilt, codeOf, cipherOf};
+use aes::Key;
 
 pub fn built(algorithm: u8) -> bool
     ensures { λ r. ⌜ r ≡ isBuilt algorithm ⌝ }
@@ -14,7 +15,7 @@ pub fn built(algorithm: u8) -> bool
 // The code of a message.
 pub fn code(
     algorithm: u8,
-    key: [u8; 16],
+    key: Key,
     count: u32,
     bearer: u8,
     direction: u8,
@@ -29,14 +30,7 @@ pub fn code(
 }
 
 // The octets ciphered, or deciphered, where they lie.
-pub fn cipher(
-    algorithm: u8,
-    key: [u8; 16],
-    count: u32,
-    bearer: u8,
-    direction: u8,
-    octets: &mut [u8],
-)
+pub fn cipher(algorithm: u8, key: Key, count: u32, bearer: u8, direction: u8, octets: &mut [u8])
     ensures { λ r. ⌜ now (octets .exit) ≡ cipherOf algorithm key count bearer direction (now (octets .entry)) ⌝ }
 {
     if algorithm == 2 {

@@ -186,7 +186,7 @@ fn seven_and_eight() {
 // An EPS message of 6 octets with a right code: 8 carrying 12.
 fn eps_of_six() {
     let last = [0u8];
-    let code = aes::nia2(KEY, 0, 1, 0, &last);
+    let code = aes::nia2(aes::Key::of(KEY), 0, 1, 0, &last);
     let message = [0x17, code[0], code[1], code[2], code[3], 0];
     let mut out = [0u8; 8];
     let opened = fresh().open_eps(&message, &mut out);
@@ -197,7 +197,7 @@ fn eps_of_six() {
 // Whether the code for a bearer and a direction is the CMAC behind a head whose fifth octet is the one given.
 fn fifth_is(octet: u8, bearer: u8, direction: u8) -> u64 {
     let message = [1u8, 2, 3];
-    let code = aes::nia2(KEY, 0x0102_0304, bearer, direction, &message);
+    let code = aes::nia2(aes::Key::of(KEY), 0x0102_0304, bearer, direction, &message);
     let w = aes::expand_key(KEY);
     let head = [1, 2, 3, 4, octet, 0, 0, 0];
     let whole = aes::cmac(&w, &head, &message);
@@ -432,7 +432,13 @@ fn tell_verified(value: &[u8]) {
 fn containers(n: usize) {
     let mut value = [0x5au8; 65543];
     value[4] = 0x22;
-    let code = aes::nia2(KEY, 0xffff_ffff, 1, 1, behind(front(&value, n), 4));
+    let code = aes::nia2(
+        aes::Key::of(KEY),
+        0xffff_ffff,
+        1,
+        1,
+        behind(front(&value, n), 4),
+    );
     nas_core::put_code(code, &mut value);
     tell_verified(front(&value, n));
     if n < 9 {

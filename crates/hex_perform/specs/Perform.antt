@@ -11,6 +11,7 @@ use Rattle.nas_5gs.specs.declared.Connection.{Connection}
 use Rattle.nas_5gs.specs.declared.Connection.the-variants.{ThreeGpp, Non3Gpp}
 use Rattle.nas_5gs.specs.Places.{four}
 use Rattle.nas_5gs.specs.Leaves.{Leaves, leaves}
+use Rattle.aes.specs.Keys.{keyOf}
 use Rattle.nas_5gs.specs.Changes.{coreWith, newOf, restoreOf, reselectOf, windowOf}
 use Rattle.nas_5gs.specs.Seal.{sealOf, sealOpaqueOf}
 use Rattle.nas_5gs.specs.Open.{openOf}
@@ -32,7 +33,7 @@ connectionOf n = cond (eqb n 1) ThreeGpp Non3Gpp
 -- any numbers
 unfoldable pub rawContext : ℕ → ℕ → ℕ → List ℕ → List ℕ → List ℕ → List ℕ → Context
 rawContext i c n ik ck next bits =
-    record { core = coreWith i c ik ck n; records = four (λ p. record { next = getD next p 0; bits = getD bits p 0 }) }
+    record { core = coreWith i c (keyOf ik) (keyOf ck) n; records = four (λ p. record { next = getD next p 0; bits = getD bits p 0 }) }
 
 -- the call of the line l on the context x, with the line's octets o and the lent output out
 unfoldable pub callOf : Call → Line → Context → List ℕ → List ℕ → Leaves Answer

@@ -11,6 +11,7 @@ ghost use Rattle.hex_perform.specs.Answers.{changeAnswer, useAnswer, oct
 ghost use Rattle.hex_perform.specs.Perform.{directionOf, connectionOf, rawContext, callOf};
 use crate::Answer;
 use crate::Done;
+use aes::Key;
 use count::Record;
 use hex_parse::Call;
 use hex_parse::Line;
@@ -195,6 +196,8 @@ fn raw(
 ) -> Context
     ensures { λ r. ⌜ r ≡ rawContext integrity ciphering size «integrity_key» «ciphering_key» next bits ⌝ }
 {
+    let integrity_key = Key::of(integrity_key);
+    let ciphering_key = Key::of(ciphering_key);
     let core = Core {
         integrity,
         ciphering,

@@ -45,7 +45,7 @@ recordText r = word 4 (r .next) ++ word 8 (r .bits)
 -- II CC IK CK WW
 unfoldable pub coreText : Core → List ℕ
 coreText k =
-    textOf (k .integrity ∷ []) ++ word 1 (k .ciphering) ++ octetsWord (k .«integrity_key») ++ octetsWord (k .«ciphering_key») ++ word 1 (k .size)
+    textOf (k .integrity ∷ []) ++ word 1 (k .ciphering) ++ octetsWord (k .«integrity_key» .octets) ++ octetsWord (k .«ciphering_key» .octets) ++ word 1 (k .size)
 
 -- II CC IK CK WW N B N B N B N B
 unfoldable pub shownText : Context → List ℕ

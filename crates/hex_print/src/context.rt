@@ -7,6 +7,7 @@ ghost use lib.ListN.{length, take};
 ghost use Rattle.hex_print.specs.Lines.{recordText, coreText, shownText};
 ghost use Rattle.hex_print.specs.Words.{Puts, octetsWord};
 use crate::words;
+use aes::Key;
 use count::Record;
 use nas_5gs::Context;
 
@@ -18,11 +19,12 @@ fn record(rec: Record, out: &mut [u8], at: usize) -> usize
     words::word(rec.bits, 8, out, next)
 }
 
-fn key(key: [u8; 16], out: &mut [u8], at: usize) -> usize
+fn key(key: Key, out: &mut [u8], at: usize) -> usize
     requires { ⌜ at + 34 ≤ length (now out) ⌝ }
-    ensures { λ r. ⌜ Puts (now (out .entry)) at (octetsWord key) (now (out .exit)) r × (r ≤ at + 34) ⌝ }
+    ensures { λ r. ⌜ Puts (now (out .entry)) at (octetsWord (key .octets)) (now (out .exit)) r × (r ≤ at + 34) ⌝ }
 {
-    words::octets(&key, out, at)
+    let octets = key.octets();
+    words::octets(&octets, out, at)
 }
 
 // The codes, keys and size.

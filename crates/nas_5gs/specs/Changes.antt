@@ -8,6 +8,8 @@ use Rattle.count.specs.Rule.{resizeOf, closeOf}
 use Rattle.refusals.specs.Order.{_when_, first, refusedOr}
 use Rattle.nas_core.specs.Keyed.{awayFromNull}
 use Rattle.nas_core.specs.Refusals.{unbuilt}
+use Rattle.aes.specs.declared.Key.{Key}
+use Rattle.aes.specs.Keys.{keyOf}
 use Rattle.nas_core.specs.declared.Core.{Core}
 use Rattle.nas_5gs.specs.declared.Context.{Context}
 use Rattle.nas_5gs.specs.declared.ChangeAnswer.{ChangeAnswer}
@@ -15,14 +17,14 @@ use Rattle.nas_5gs.specs.declared.ChangeAnswer.the-variants.{Refused, Do
 use Rattle.nas_5gs.specs.Places.{recordAt, four, anyOver, faultOf}
 use Rattle.nas_5gs.specs.Leaves.{Leaves, leaves}
 
-abbrev pub coreWith : ℕ → ℕ → List ℕ → List ℕ → ℕ → Core
+abbrev pub coreWith : ℕ → ℕ → Key → Key → ℕ → Core
 coreWith i c ik ck n =
     record { integrity = i; ciphering = c; «integrity_key» = ik; «ciphering_key» = ck; size = n }
 
 -- four next COUNTs, size 0, no bit marked
 abbrev pub contextWith : ℕ → ℕ → List ℕ → List ℕ → List ℕ → Context
 contextWith i c ik ck next =
-    record { core = coreWith i c ik ck 0; records = four (λ p. record { next = getD next p 0; bits = 0 }) }
+    record { core = coreWith i c (keyOf ik) (keyOf ck) 0; records = four (λ p. record { next = getD next p 0; bits = 0 }) }
 
 -- what a refused creation or restore hands back: both codes 255, all else 0
 abbrev pub refusedContext : Context
@@ -55,7 +57,7 @@ unfoldable pub reselectOf : Context → ℕ → ℕ → List ℕ → List ℕ �
 reselectOf x i c ik ck =
     refusedOr (first (faultOf x ∷ 13 when unbuilt i c ∷ []))
     (λ n. leaves (Refused n) x [])
-    (leaves Done (record { core = coreWith i c ik ck (x .core .size); records = keptFor x i .records }) [])
+    (leaves Done (record { core = coreWith i c (keyOf ik) (keyOf ck) (x .core .size); records = keptFor x i .records }) [])
 
 -- every record under a new size
 unfoldable pub resized : Context → ℕ → Context

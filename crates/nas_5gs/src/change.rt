@@ -10,6 +10,7 @@ use crate::ChangeDone;
 use crate::Connection;
 use crate::Context;
 use crate::Direction;
+use aes::Key;
 use count::Record;
 use nas_core::Core;
 
@@ -22,6 +23,8 @@ fn context_with(
 ) -> Context
     ensures { λ r. ⌜ r ≡ contextWith integrity ciphering «integrity_key» «ciphering_key» next ⌝ }
 {
+    let integrity_key = Key::of(integrity_key);
+    let ciphering_key = Key::of(ciphering_key);
     let core = Core {
         integrity,
         ciphering,
@@ -163,6 +166,8 @@ impl Context {
                 context: self,
             };
         }
+        let integrity_key = Key::of(integrity_key);
+        let ciphering_key = Key::of(ciphering_key);
         let mut context = self.kept_for(integrity);
         let size = self.core.size;
         let core = Core {

@@ -9,6 +9,7 @@ ghost use Rattle.refusals.specs.Order.{first};
 ghost use Rattle.nas_core.specs.Refusals.{coreFault, sendRefusals, handRefusals, unbuilt};
 ghost use Rattle.nas_core.specs.Keyed.{wraps, awayFromNull, codeBy, payload, protected};
 ghost use Rattle.nas_core.specs.Verify.{same, fits, verifyOf, advanced};
+use aes::Key;
 use count::Candidate;
 use count::Opening;
 use count::Record;
@@ -20,8 +21,8 @@ pub const LIMIT: usize = 65535;
 pub struct Core {
     pub integrity: u8,
     pub ciphering: u8,
-    pub integrity_key: [u8; 16],
-    pub ciphering_key: [u8; 16],
+    pub integrity_key: Key,
+    pub ciphering_key: Key,
     pub size: u8,
 }
 

@@ -1,6 +1,7 @@
 // Reads hex lines from standard input, performs each on one of eight contexts, and prints one line for each.
 ghost use Prim.Native.Nat.{_+_, _≤_};
 ghost use lib.ListN.{length};
+use aes::Key;
 use count::Record;
 use hex_parse::Call;
 use hex_parse::Line;
@@ -110,8 +111,10 @@ fn with_octets(line: Line, digits: usize) -> Line {
 
 // What is watched: that a refusal leaves the context.
 
-fn same_key(a: [u8; 16], b: [u8; 16]) -> bool {
-    check::same(&a, &b)
+fn same_key(a: Key, b: Key) -> bool {
+    let x = a.octets();
+    let y = b.octets();
+    check::same(&x, &y)
 }
 
 fn same_core(a: Core, b: Core) -> bool {

@@ -8,6 +8,7 @@ use native.Mathlib.Omega.{arith}
 use lib.ListN.{replicate}
 use lib.Dec.{eqb}
 use borrow.Author.Tests.{eqb-true, ne-eqb}
+use Rattle.aes.specs.Keys.{keyOf}
 use Rattle.count.specs.declared.Record.{Record}
 use Rattle.count.specs.Rule.{closeOf}
 use Rattle.count.specs.Run.{close, act, Within, Shut, In, NoneTwice}
@@ -253,7 +254,7 @@ reselected-begins x r =
     let size = b .core .size in
     let l : List ℕ = faultOf b ∷ 13 when unbuilt (r .integrity) (r .ciphering) ∷ [] in
     let made : Context =
-    record { core = coreWith (r .integrity) (r .ciphering) (r .integrityKey) (r .cipheringKey) size; records = four (λ p. closeOf size (recordAt b p)) } in
+    record { core = coreWith (r .integrity) (r .ciphering) (keyOf (r .integrityKey)) (keyOf (r .cipheringKey)) size; records = four (λ p. closeOf size (recordAt b p)) } in
     let a = accepted (first l) made b x (rw (away b (r .integrity) (r .null) (r .guarded)) at (r .made)) in
     let q = passed l (a .0) in
     let f = faultless b (q 0) in

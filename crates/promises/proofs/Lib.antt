@@ -20,3 +20,4 @@ pub mod Isolation
 pub mod Tightness
 pub mod Lent
 pub mod Promises
+pub mod Kept

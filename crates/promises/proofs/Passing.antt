@@ -6,6 +6,7 @@ use mathlib.Core.List.{List, []}
 use lib.Dec.{eqb}
 use native.Mathlib.Omega.{arith}
 use borrow.Author.Tests.{eqb-true, eqb-false, eq-eqb, ne-eqb}
+use Rattle.aes.specs.Keys.{keyOf}
 use Rattle.refusals.specs.Order.{refusedOr}
 use Rattle.nas_5gs.specs.declared.Context.{Context}
 use Rattle.nas_5gs.specs.declared.ChangeAnswer.the-variants as change
@@ -31,7 +32,7 @@ sends x p made out = outcome useValues (useNext x p made out)
 abbrev pub passes : Call → Context → Outcome
 passes (setWindow n) x = record { values = success; context = resized x n; output = [] }
 passes (reselect i c ik ck) x =
-    record { values = success; context = record { core = coreWith i c ik ck (x .core .size); records = keptFor x i .records }; output = [] }
+    record { values = success; context = record { core = coreWith i c (keyOf ik) (keyOf ck) (x .core .size); records = keptFor x i .records }; output = [] }
 passes (seal5gs t d k inner out) x = sends x (placeOf d k) (λ c. envelope (x .core) t c (bearerNo k) (directionNo d) inner) out
 passes (sealOpaque t d k inner out) x = sends x (placeOf d k) (λ c. envelope (x .core) t c (bearerNo k) (directionNo d) inner) out
 passes (open5gs d k m out) x = outcome openValues (opened x (placeOf d k) (bearerNo k) (directionNo d) m out)
@@ -59,7 +60,7 @@ unfolding windowOf reselectOf sealOf sealOpaqueOf sent openOf sealEpsOf openEpsO
 gives-is (setWindow n) x = split changeValues (refusalOf (setWindow n) x) (λ j. leaves (change.Refused j) x []) (leaves change.Done (resized x n) [])
 gives-is (reselect i c ik ck) x =
     split changeValues (refusalOf (reselect i c ik ck) x) (λ j. leaves (change.Refused j) x [])
-    (leaves change.Done (record { core = coreWith i c ik ck (x .core .size); records = keptFor x i .records }) [])
+    (leaves change.Done (record { core = coreWith i c (keyOf ik) (keyOf ck) (x .core .size); records = keptFor x i .records }) [])
 gives-is (seal5gs t d k inner out) x =
     split useValues (refusalOf (seal5gs t d k inner out) x) (λ j. leaves (use′.Refused j) x out)
     (useNext x (placeOf d k) (λ c. envelope (x .core) t c (bearerNo k) (directionNo d) inner) out)

@@ -6,6 +6,7 @@ use Rattle.promises.proofs.Demand3.{keeps}
 use Rattle.promises.proofs.Delivery.{delivery}
 use Rattle.promises.proofs.Null.{null-holds}
 use Rattle.promises.proofs.Skipped.{skipped}
+use Rattle.promises.proofs.Kept.{always}
 use Rattle.promises.proofs.Isolation.{apart, isolation}
 use Rattle.promises.proofs.Tightness.{only-one, tightness}
 
@@ -22,6 +23,7 @@ promises =
       delivery = delivery;
       null-integrity = null-holds;
       skipped = skipped;
+      kept = always;
       apart = apart;
       isolation = isolation;
       only-one = only-one;

@@ -7,6 +7,7 @@ use mathlib.Core.List.{List, [], _∷_, map}
 use native.Mathlib.Omega.{arith}
 use lib.ListN.{length, getD, set, drop}
 use lib.Dec.{eqb, ltb}
+use Rattle.aes.specs.Keys.{keyOf}
 use Rattle.count.specs.declared.Record.{Record}
 use Rattle.count.specs.declared.Opening.{Opening}
 use Rattle.count.specs.Rule.{resizeOf, closeOf, useLate, forwardOnly, distanceOf}
@@ -243,7 +244,7 @@ pub record Reselects (k : Call) (x : Context) : Type 0 where
   pub is : k ≡ reselect integrity ciphering integrityKey cipheringKey
   pub built : unbuilt integrity ciphering ≡ false
   pub succeeds : gives k x .values .number ≡ 0
-  pub core-after : gives k x .context .core ≡ coreWith integrity ciphering integrityKey cipheringKey (x .core .size)
+  pub core-after : gives k x .context .core ≡ coreWith integrity ciphering (keyOf integrityKey) (keyOf cipheringKey) (x .core .size)
 
 -- What a call makes of a context, and of an answer. Keys and codes stay, but by a reselection.
 pub record Acted (k : Call) (x : Context) : Type 0 where
@@ -289,11 +290,11 @@ reselect-acted i c ik ck x h =
     go : (t b : Bool) → eqb (refusalOf (reselect i c ik ck) x) 0 ≡ t
         → let o = outcome changeValues
         (cond t
-        (leaves change.Done (record { core = coreWith i c ik ck (x .core .size); records = (cond b (closed x) x) .records }) [])
+        (leaves change.Done (record { core = coreWith i c (keyOf ik) (keyOf ck) (x .core .size); records = (cond b (closed x) x) .records }) [])
         (leaves (change.Refused (refusalOf (reselect i c ik ck) x)) x [])) in
         let a = cond t (cond b close stay) stay in
         (SameKeys (x .core) (o .context .core)
-        ⊎ ((unbuilt i c ≡ false) × (o .values .number ≡ 0) × (o .context .core ≡ coreWith i c ik ck (x .core .size))))
+        ⊎ ((unbuilt i c ≡ false) × (o .values .number ≡ 0) × (o .context .core ≡ coreWith i c (keyOf ik) (keyOf ck) (x .core .size))))
         × (o .context .core .size ≡ act a (recordOf 4 x) .size)
         × (o .context .records ≡ recordsAfter 4 a (x .core .size) (x .records))
         × (usedBy (o .values) ≡ used a)

@@ -7,6 +7,7 @@ use mathlib.Core.Bool.{true}
 use mathlib.Core.Logic.{_⊎_}
 use mathlib.Core.List.{List, [], _∷_}
 use lib.ListN.{length, getD, drop, replicate}
+use Rattle.aes.specs.Keys.{keyOf}
 use Rattle.algorithms.specs.Codes.{isBuilt}
 use Rattle.count.specs.Rule.{exhausted}
 use Rattle.count.specs.Run.{In}
@@ -132,7 +133,7 @@ pub record Demand1Making : Type 0 where
 pub record Demand1Changes (x : Context) (faultless : faultOf x ≡ 0) : Type 0 where
   -- "Reselection takes new codes and both new keys; next COUNTs, size and bits stay", but that one away from null closes every late COUNT
   pub reselected : (i c : ℕ) (ik ck : List ℕ) → Built i c
-      → gives (reselect i c ik ck) x ≡ done (record { core = coreWith i c ik ck (x .core .size); records = keptFor x i .records })
+      → gives (reselect i c ik ck) x ≡ done (record { core = coreWith i c (keyOf ik) (keyOf ck) (x .core .size); records = keptFor x i .records })
   pub not-reselected : (i c : ℕ) (ik ck : List ℕ) → (Built i c → ⊥) → gives (reselect i c ik ck) x ≡ refused 13 x
   pub sized : (n : ℕ) → n ≤ 64 → gives (setWindow n) x ≡ done (resized x n)
   pub not-sized : (n : ℕ) → 64 < n → gives (setWindow n) x ≡ refused 14 x

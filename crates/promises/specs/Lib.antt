@@ -10,3 +10,4 @@ pub mod Skipped
 pub mod Isolation
 pub mod Tightness
 pub mod Promises
+pub mod Kept

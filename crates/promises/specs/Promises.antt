@@ -9,6 +9,7 @@ use Rattle.promises.specs.Demand3.{Keeps}
 use Rattle.promises.specs.Delivery.{Delivery}
 use Rattle.promises.specs.Null.{NullHolds}
 use Rattle.promises.specs.Skipped.{Skipped}
+use Rattle.promises.specs.Kept.{Always}
 use Rattle.promises.specs.Isolation.{Apart, Isolation}
 use Rattle.promises.specs.Tightness.{OnlyOne, Tightness}
 
@@ -23,6 +24,7 @@ pub record Promises : Type 1 where
   pub delivery : Delivery
   pub null-integrity : NullHolds
   pub skipped : Skipped
+  pub kept : Always
   pub apart : Apart
   pub isolation : Isolation
   pub only-one : OnlyOne

@@ -29,9 +29,10 @@ fn rounds(text: &[u8]) -> u32
 }
 
 fn cipher(m: &mut [u8], n: u32) {
+    let key = aes::Key::of(KEY);
     let mut done: u32 = 0;
     while done < n {
-        aes::nea2(KEY, done, 1, 0, m);
+        aes::nea2(key, done, 1, 0, m);
         done += 1;
     }
 }
@@ -39,9 +40,10 @@ fn cipher(m: &mut [u8], n: u32) {
 fn code(m: &mut [u8], n: u32)
     requires { ⌜ 4 ≤ length (now m) ⌝ }
 {
+    let key = aes::Key::of(KEY);
     let mut done: u32 = 0;
     while done < n {
-        let r = aes::nia2(KEY, done, 1, 0, m);
+        let r = aes::nia2(key, done, 1, 0, m);
         m[0] = r[0];
         done += 1;
     }

@@ -111,7 +111,7 @@ fn run_mode(second: u8, line: &[u8], m: &mut [u8]) {
 // The kinds that begin with n: `nea2` and `nia2`.
 fn run_nas(second: u8, line: &[u8], m: &mut [u8]) {
     let name = nth(line, 1);
-    let key = block(nth(line, 2));
+    let key = aes::Key::of(block(nth(line, 2)));
     let count = number(nth(line, 3));
     let bearer = octet(nth(line, 4));
     let direction = letter(nth(line, 5), 0) % 2;

@@ -6,14 +6,14 @@ use Rattle.speed.proofs.code.Statement.{statement}
 use Rattle.speed.proofs.code.Tie as tie
 
 abbrev Inv-loop : tie.InvT-loop
-Inv-loop m₀ n done₀ m done = (done ≤ n) × (length m ≡ length m₀)
+Inv-loop m₀ n key done₀ m done = (done ≤ n) × (length m ≡ length m₀)
 
 abbrev μ-loop : tie.MeasureT-loop
-μ-loop m₀ n done₀ m done = n - done
+μ-loop m₀ n key done₀ m done = n - done
 
 pub code-spec : {M : Type 1} → statement M
 code-spec =
     tie.close
     (tie.spec
-    Inv-loop μ-loop (λ c. search needs) (λ c κs. search needs) (λ c. search needs) (λ c. search needs)
+    Inv-loop μ-loop (λ c κs. search needs) (λ c. search needs) (λ c κs. search needs) (λ c. search needs) (λ c. search needs)
     (λ c. search needs) (λ c. search needs) (λ c. search needs) (λ c. search needs) (λ c. search needs))

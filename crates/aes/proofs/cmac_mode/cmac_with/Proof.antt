@@ -12,10 +12,10 @@ use Rattle.aes.proofs.cmac_mode.cmac_with.Statement.{statement}
 use Rattle.aes.proofs.cmac_mode.cmac_with.Tie as tie
 
 abbrev Inv-loop : tie.InvT-loop
-Inv-loop table w head message length n x₀ done₀ x done = (done ≤ n) × (x ≡ chain (cipher w) (head ++ message) done)
+Inv-loop table w k1 k2 head message length n x₀ done₀ x done = (done ≤ n) × (x ≡ chain (cipher w) (head ++ message) done)
 
 abbrev μ-loop : tie.MeasureT-loop
-μ-loop table w head message length n x₀ done₀ x done = n - done
+μ-loop table w k1 k2 head message length n x₀ done₀ x done = n - done
 
 loop-holds : tie.Need-loop-holds Inv-loop μ-loop
 unfolding chain
@@ -38,7 +38,7 @@ returns c =
     let e : length (a .head .now ++ a .message .now) ≡ length (a .head .now) + length (a .message .now) = length-append (a .head .now) (a .message .now) in
     let d : l .loop .done ≡ l .before .blocks-before-last .result = omega arith in
     rw (c .encrypt-with2 .ensures, c .before .xor-block2 .ensures, c .before .before .keyed-block .ensures, c .before .before .before .block-at2 .ensures, l .loop .inv .1, d, ← e)
-    (mac-end (cipher (a .w .now)) (a .head .now ++ a .message .now) (l .before .blocks-before-last .result) (rw e (l .before .blocks-before-last .ensures)))
+    (mac-end (cipher (a .w .now)) (a .k1) (a .k2) (a .head .now ++ a .message .now) (l .before .blocks-before-last .result) (rw e (l .before .blocks-before-last .ensures)))
 
 pub cmac-with-spec : {M : Type 1} → statement M
 cmac-with-spec =

@@ -3,22 +3,22 @@ use mathlib.Core.List.{List, _++_}
 use Prim.Native.Nat.{ℕ}
 use lib.ListN.{replicate}
 use Rattle.aes.proofs.Lists.{itself}
-use Rattle.aes.specs.Nas.{nea2Of}
+use Rattle.aes.specs.Keys.{nea2By}
 use borrow.Author.Needs.{needs}
 use Rattle.aes.proofs.nas.nea2.Statement.{statement}
 use Rattle.aes.proofs.nas.nea2.Tie as tie
 
 returns : tie.Need-returns
-unfolding nea2Of
+unfolding nea2By
 returns c =
     let b = c .before .before .before .before .before .before in
     let e = ap (λ (l : List ℕ). l ++ replicate 8 0) (itself 8 (b .head .result) (b .head .ok .1 .0 .1)) in
-    rw (c .before .before .ctr-with .ensures, e, b .head .ensures, b .before .expand-with .ensures)
+    rw (c .before .before .ctr-with .ensures, e, b .head .ensures)
 
 pub nea2-spec : {M : Type 1} → statement M
 nea2-spec =
     tie.close
     (tie.spec
-    (λ c κs. search needs) (λ c κs. search needs) (λ c κs. search needs) (λ c. search needs) (λ c. search needs)
+    (λ c κs. search needs) (λ c κs. search needs) (λ c. search needs) (λ c. search needs)
     (λ c. search needs) (λ c. search needs) (λ c. search needs) (λ c. search needs) (λ c. search needs)
     (λ c. search needs) (λ c κs. search needs) (λ c. search needs) returns)

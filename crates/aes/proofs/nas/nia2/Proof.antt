@@ -1,21 +1,21 @@
 use mathlib.Core.Path.{ap, _∙_}
 use lib.ListN.{take}
-use Rattle.aes.specs.Nas.{nia2Of}
+use Rattle.aes.specs.Keys.{nia2By}
 use Rattle.aes.proofs.Lists.{itself}
 use borrow.Author.Needs.{needs}
 use Rattle.aes.proofs.nas.nia2.Statement.{statement}
 use Rattle.aes.proofs.nas.nia2.Tie as tie
 
 returns : tie.Need-returns
-unfolding nia2Of
+unfolding nia2By
 returns c =
     let b = c .before .before .before .before in
     ap (take 4) (itself 16 (c .cmac-with .result) (c .cmac-with .ok .1 .0 .1) ∙ c .cmac-with .ensures) ∙
-    rw (b .head .ensures, b .before .expand-with .ensures)
+    rw (b .head .ensures)
 
 pub nia2-spec : {M : Type 1} → statement M
 nia2-spec =
     tie.close
     (tie.spec
-    (λ c κs. search needs) (λ c κs. search needs) (λ c κs. search needs) (λ c. search needs) (λ c κs. search needs)
+    (λ c κs. search needs) (λ c κs. search needs) (λ c. search needs) (λ c κs. search needs)
     (λ c. search needs) (λ c. search needs) (λ c. search needs) (λ c. search needs) returns)

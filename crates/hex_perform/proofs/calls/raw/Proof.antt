@@ -5,11 +5,11 @@ use Rattle.hex_perform.proofs.calls.raw.Tie as tie
 
 returns : tie.Need-returns
 unfolding rawContext
-returns c = search needs
+returns c = simp (c .of2 .ensures, c .before .of .ensures)
 
 pub raw-spec : {M : Type 1} → statement M
 raw-spec =
     tie.close
     (tie.spec
-    (λ c. search needs) (λ c. search needs) (λ c. search needs) (λ c. search needs) (λ c. search needs)
-    (λ c. search needs) (λ c. search needs) (λ c. search needs) returns)
+    (λ c κs. search needs) (λ c κs. search needs) (λ c. search needs) (λ c. search needs) (λ c. search needs)
+    (λ c. search needs) (λ c. search needs) (λ c. search needs) (λ c. search needs) (λ c. search needs) returns)

@@ -1,0 +1,68 @@
+-- What the contexts keep is their keys' own.
+use Prim.Native.Nat.{ℕ}
+use mathlib.Core.Path.{_≡_, sym, ap, subst}
+use mathlib.Core.Bool.{Bool, true, false, cond}
+use mathlib.Core.Logic.{⊎-elim}
+use mathlib.Core.List.{List, [], _∷_}
+use lib.Dec.{eqb}
+use lib.ListN.{length, getD, replicate}
+use Rattle.aes.specs.Keys.{Kept}
+use Rattle.aes.proofs.Laws.{made-kept, nia2-standard, nea2-standard}
+use Rattle.algorithms.specs.Codes.{codeOf, cipherOf}
+use Rattle.nas_core.specs.declared.Core.{Core}
+use Rattle.nas_core.specs.Keyed.{codeBy, payload}
+use Rattle.nas_core.specs.Refusals.{unbuilt}
+use Rattle.refusals.specs.Order.{_when_, first, refusedOr}
+use Rattle.nas_5gs.specs.declared.Context.{Context}
+use Rattle.nas_5gs.specs.declared.ChangeAnswer.the-variants as change
+use Rattle.nas_5gs.specs.Leaves.{leaves, changeValues}
+use Rattle.nas_5gs.specs.Places.{four, anyOver}
+use Rattle.nas_5gs.specs.Changes.{contextWith, refusedContext, newOf, restoreOf}
+use Rattle.promises.specs.Calls.{Making, create, restore, makes, Call, gives, outcome}
+use Rattle.promises.specs.Kept.{KeptIn, Always}
+use Rattle.promises.proofs.Shapes.{acts}
+
+-- refused or not
+either : (n : ℕ) (f : ℕ → Context) (y : Context) → ((k : ℕ) → KeptIn (f k)) → KeptIn y
+    → KeptIn (outcome changeValues (refusedOr n (λ k. leaves (change.Refused k) (f k) []) (leaves change.Done y [])) .context)
+either n f y r d = go (eqb n 0)
+  where
+    go : (t : Bool) → KeptIn (outcome changeValues (cond t (leaves change.Done y []) (leaves (change.Refused n) (f n) [])) .context)
+    go true = d
+    go false = r n
+
+with : (i c : ℕ) (ik ck next : List ℕ) → KeptIn (contextWith i c ik ck next)
+with i c ik ck next = record { integrity = made-kept ik; ciphering = made-kept ck }
+
+none : KeptIn refusedContext
+none = with 255 255 (replicate 16 0) (replicate 16 0) (replicate 4 0)
+
+made : (m : Making) → KeptIn (makes m .context)
+unfolding newOf restoreOf
+made (create i c ik ck) =
+    either (first (13 when unbuilt i c ∷ [])) (λ k. refusedContext) (contextWith i c ik ck (replicate 4 0))
+    (λ k. none) (with i c ik ck (replicate 4 0))
+made (restore i c ik ck next) =
+    either (first (13 when unbuilt i c ∷ 16 when anyOver (four (λ p. getD next p 0)) ∷ [])) (λ k. refusedContext) (contextWith i c ik ck next)
+    (λ k. none) (with i c ik ck next)
+
+after : (k : Call) (x : Context) → length (x .records) ≡ 4 → KeptIn x → KeptIn (gives k x .context)
+after k x four h =
+    ⊎-elim
+    (λ s. record { integrity = rw (← (s .integrity-key)) (h .integrity); ciphering = rw (← (s .ciphering-key)) (h .ciphering) })
+    (λ r.
+    record {
+      integrity = subst Kept (sym (ap (λ (y : Core). y .«integrity_key») (r .core-after))) (made-kept (r .integrityKey));
+      ciphering = subst Kept (sym (ap (λ (y : Core). y .«ciphering_key») (r .core-after))) (made-kept (r .cipheringKey));
+    })
+    (acts k x four .keys-after)
+
+pub always : Always
+unfolding codeBy payload codeOf cipherOf
+always =
+    record {
+      made = made;
+      after = after;
+      codes = λ x h c b d m. rw (nia2-standard (x .core .«integrity_key») c b d m (h .integrity));
+      payloads = λ x h t c b d m. rw (nea2-standard (x .core .«ciphering_key») c b d m (h .ciphering));
+    }

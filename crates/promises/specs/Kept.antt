@@ -1,0 +1,29 @@
+-- "Keep the expanded keys and the two CMAC subkeys in the context, made at creation, restore and reselection. It must always hold that they are those of the
+-- stored keys, and calls may rely on it. Answers do not change."
+use Prim.Native.Nat.{ℕ}
+use mathlib.Core.Path.{_≡_}
+use mathlib.Core.Bool.{Bool, cond}
+use mathlib.Core.List.{List, [], _∷_}
+use lib.Dec.{eqb}
+use lib.ListN.{length}
+use Rattle.aes.specs.Nas.{nia2Of, nea2Of}
+use Rattle.aes.specs.Keys.{Kept}
+use Rattle.nas_core.specs.Keyed.{codeBy, payload}
+use Rattle.nas_5gs.specs.declared.Context.{Context}
+use Rattle.promises.specs.Calls.{Making, makes, Call, gives}
+
+-- what a context keeps with its keys is their own
+pub record KeptIn (x : Context) : Type 0 where
+  pub integrity : Kept (x .core .«integrity_key»)
+  pub ciphering : Kept (x .core .«ciphering_key»)
+
+pub record Always : Type 0 where
+  -- "made at creation, restore": refused ones too
+  pub made : (m : Making) → KeptIn (makes m .context)
+  -- "it must always hold": after every call, reselection among them, refused or not
+  pub after : (k : Call) (x : Context) → length (x .records) ≡ 4 → KeptIn x → KeptIn (gives k x .context)
+  -- "answers do not change": what the calls make with the keys is what the standards make with the 16 octets
+  pub codes : (x : Context) → KeptIn x → (c b d : ℕ) (m : List ℕ)
+      → codeBy (x .core) c b d m ≡ cond (eqb (x .core .integrity) 2) (nia2Of (x .core .«integrity_key» .octets) c b d m) (0 ∷ 0 ∷ 0 ∷ 0 ∷ [])
+  pub payloads : (x : Context) → KeptIn x → (t : Bool) (c b d : ℕ) (m : List ℕ)
+      → payload (x .core) t c b d m ≡ cond t (cond (eqb (x .core .ciphering) 2) (nea2Of (x .core .«ciphering_key» .octets) c b d m) m) m

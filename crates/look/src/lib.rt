@@ -51,7 +51,7 @@ fn is_session(octets: &[u8]) -> bool
     octets[0] == 0x2e
 }
 
-fn is_of(message_type: u8, octets: &[u8]) -> bool
+pub fn is_of(message_type: u8, octets: &[u8]) -> bool
     ensures { λ r. ⌜ r ≡ isOf «message_type» (now (octets .entry)) ⌝ }
 {
     if is_mobility(octets) {

@@ -34,7 +34,7 @@ zeros-read zero i = refl
 zeros-read (suc n) zero = refl
 zeros-read (suc n) (suc i) = zeros-read n i
 
-zeros-behind : (l : List ℕ) (n i : ℕ) → getD (l ++ replicate n 0) i 0 ≡ getD l i 0
+pub zeros-behind : (l : List ℕ) (n i : ℕ) → getD (l ++ replicate n 0) i 0 ≡ getD l i 0
 zeros-behind [] n i = zeros-read n i
 zeros-behind (x ∷ l) n zero = refl
 zeros-behind (x ∷ l) n (suc i) = zeros-behind l n i

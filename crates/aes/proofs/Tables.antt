@@ -7,7 +7,7 @@ use native.Mathlib.Nat.{add-zero, zero-add, add-suc, suc-add, le-of-suc-le-suc, 
 use lib.ListN.{getD}
 use Rattle.aes.specs.Octets.{upFrom, below}
 
-from : (f : ℕ → ℕ) (i n k : ℕ) → k < n → getD (map f (upFrom i n)) k 0 ≡ f (i + k)
+pub from : (f : ℕ → ℕ) (i n k : ℕ) → k < n → getD (map f (upFrom i n)) k 0 ≡ f (i + k)
 from f i zero k h = absurd (not-suc-le-zero h)
 from f i (suc n) zero h = ap f (sym (add-zero i))
 from f i (suc n) (suc k) h = from f (suc i) n k (le-of-suc-le-suc h) ∙ ap f (suc-add i k ∙ sym (add-suc i k))

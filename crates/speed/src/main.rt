@@ -1,6 +1,7 @@
-// Gives the algorithms something to do, for a clock outside. Reads a letter and a decimal number of rounds, as `e 1000`:
-//   e  ciphers 8,192 octets in place by 128-NEA2, the round's number as COUNT, and prints the first four octets at the end
-//   i  makes their code by 128-NIA2 and writes its first octet over their first one
+// Gives the algorithms something to do, for a clock outside. Reads a letter, an algorithm and a decimal number of rounds, as `e2 1000`:
+//   e1 e2 e3  cipher 8,192 octets in place by 128-NEA1, 128-NEA2 or 128-NEA3, the round's number as COUNT, and print the first four octets
+//             at the end
+//   i1 i2 i3  make their code by 128-NIA1, 128-NIA2 or 128-NIA3 and write its first octet over their first one
 ghost use Prim.Native.Nat.{_≤_};
 ghost use lib.ListN.{length};
 
@@ -10,7 +11,7 @@ fn rounds(text: &[u8]) -> u32
     ensures { λ r. ⌜ r ≤ 1000000 ⌝ }
 {
     let mut n: u32 = 0;
-    let mut i = 2;
+    let mut i = 3;
     while i < text.len() {
         let b = text[i];
         if b < 48 {
@@ -28,22 +29,44 @@ fn rounds(text: &[u8]) -> u32
     n
 }
 
-fn cipher(m: &mut [u8], n: u32) {
+fn cipher_once(algorithm: u8, key: aes::Key, count: u32, m: &mut [u8]) {
+    if algorithm == b'1' {
+        snow3g::nea1(KEY, count, 1, 0, m);
+        return;
+    }
+    if algorithm == b'3' {
+        zuc::nea3(KEY, count, 1, 0, m);
+        return;
+    }
+    aes::nea2(key, count, 1, 0, m);
+}
+
+fn code_once(algorithm: u8, key: aes::Key, count: u32, m: &[u8]) -> [u8; 4] {
+    if algorithm == b'1' {
+        return snow3g::nia1(KEY, count, 1, 0, m);
+    }
+    if algorithm == b'3' {
+        return zuc::nia3(KEY, count, 1, 0, m);
+    }
+    aes::nia2(key, count, 1, 0, m)
+}
+
+fn cipher(algorithm: u8, m: &mut [u8], n: u32) {
     let key = aes::Key::of(KEY);
     let mut done: u32 = 0;
     while done < n {
-        aes::nea2(key, done, 1, 0, m);
+        cipher_once(algorithm, key, done, m);
         done += 1;
     }
 }
 
-fn code(m: &mut [u8], n: u32)
+fn code(algorithm: u8, m: &mut [u8], n: u32)
     requires { ⌜ 4 ≤ length (now m) ⌝ }
 {
     let key = aes::Key::of(KEY);
     let mut done: u32 = 0;
     while done < n {
-        let r = aes::nia2(key, done, 1, 0, m);
+        let r = code_once(algorithm, key, done, m);
         m[0] = r[0];
         done += 1;
     }
@@ -53,11 +76,12 @@ fn run(text: &[u8], m: &mut [u8])
     requires { ⌜ 4 ≤ length (now m) ⌝ }
 {
     let n = rounds(text);
-    if 0 < text.len() {
+    if 1 < text.len() {
+        let algorithm = text[1];
         if text[0] == b'e' {
-            cipher(m, n);
+            cipher(algorithm, m, n);
         } else {
-            code(m, n);
+            code(algorithm, m, n);
         }
     }
 }

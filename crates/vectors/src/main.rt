@@ -1,7 +1,8 @@
 // Runs the published test sets: reads lines of a kind, a name and values in hex, and prints each name with the result.
 //   aes  NAME key block                          ctr  NAME key first-counter-block octets
-//   cmac NAME key message                        nea2 NAME key count bearer direction octets
-//                                                nia2 NAME key count bearer direction message
+//   cmac NAME key message                        uia2 NAME key count fresh direction message
+//   neaA NAME key count bearer direction octets  niaA NAME key count bearer direction message; A is 1, 2 or 3
+//   snow3gat NAME key iv n, zucat NAME key iv n: word n of the key stream, counted from 1
 ghost use mathlib.Core.Path.{_≡_};
 ghost use Prim.Native.Nat.{_≤_};
 ghost use lib.ListN.{length};
@@ -63,25 +64,25 @@ fn octet(text: &[u8]) -> u8 {
 
 // How many octets a word has, at most a buffer's.
 fn size(text: &[u8]) -> usize
-    ensures { λ r. ⌜ r ≤ 4096 ⌝ }
+    ensures { λ r. ⌜ r ≤ 65536 ⌝ }
 {
     let n = text.len() / 2;
-    if n < 4096 { n } else { 4096 }
+    if n < 0x1_0000 { n } else { 0x1_0000 }
 }
 
-fn octets(text: &[u8]) -> [u8; 4096]
-    ensures { λ r. ⌜ 4096 ≡ length r ⌝ }
+fn octets(text: &[u8]) -> [u8; 0x1_0000]
+    ensures { λ r. ⌜ 65536 ≡ length r ⌝ }
 {
-    let mut b = [0u8; 4096];
+    let mut b = [0u8; 0x1_0000];
     hex_lines::decode(text, &mut b);
     b
 }
 
 fn show(name: &[u8], result: &[u8]) {
-    if 4096 < result.len() {
+    if 0x1_0000 < result.len() {
         return;
     }
-    let mut text = [0u8; 8192];
+    let mut text = [0u8; 0x2_0000];
     let n = hex_lines::put_octets(result, &mut text, 0);
     io::write_all(1, name);
     io::write_all(1, b" ");
@@ -108,20 +109,82 @@ fn run_mode(second: u8, line: &[u8], m: &mut [u8]) {
     }
 }
 
-// The kinds that begin with n: `nea2` and `nia2`.
+fn cipher(algorithm: u8, key: [u8; 16], count: u32, bearer: u8, direction: u8, m: &mut [u8]) {
+    if algorithm == b'1' {
+        snow3g::nea1(key, count, bearer, direction, m);
+        return;
+    }
+    if algorithm == b'3' {
+        zuc::nea3(key, count, bearer, direction, m);
+        return;
+    }
+    aes::nea2(aes::Key::of(key), count, bearer, direction, m);
+}
+
+fn code(algorithm: u8, key: [u8; 16], count: u32, bearer: u8, direction: u8, m: &[u8]) -> [u8; 4] {
+    if algorithm == b'1' {
+        return snow3g::nia1(key, count, bearer, direction, m);
+    }
+    if algorithm == b'3' {
+        return zuc::nia3(key, count, bearer, direction, m);
+    }
+    aes::nia2(aes::Key::of(key), count, bearer, direction, m)
+}
+
+// The kinds that begin with n: `nea1`, `nia1` and so on.
 fn run_nas(second: u8, line: &[u8], m: &mut [u8]) {
+    let algorithm = letter(line, 3);
     let name = nth(line, 1);
-    let key = aes::Key::of(block(nth(line, 2)));
+    let key = block(nth(line, 2));
     let count = number(nth(line, 3));
     let bearer = octet(nth(line, 4));
     let direction = letter(nth(line, 5), 0) % 2;
     if second == b'e' {
-        aes::nea2(key, count, bearer, direction, m);
+        cipher(algorithm, key, count, bearer, direction, m);
         show(name, m);
     } else {
-        let r = aes::nia2(key, count, bearer, direction, m);
+        let r = code(algorithm, key, count, bearer, direction, m);
         show(name, &r);
     }
+}
+
+fn run_uia2(line: &[u8], m: &[u8]) {
+    let key = block(nth(line, 2));
+    let count = number(nth(line, 3));
+    let fresh = number(nth(line, 4));
+    let direction = letter(nth(line, 5), 0) % 2;
+    let r = snow3g::uia2(key, count, fresh, direction, m);
+    show(nth(line, 1), &r);
+}
+
+fn four(text: &[u8]) -> [u32; 4] {
+    let b = block(text);
+    [
+        joined(b[0], b[1], b[2], b[3]),
+        joined(b[4], b[5], b[6], b[7]),
+        joined(b[8], b[9], b[10], b[11]),
+        joined(b[12], b[13], b[14], b[15]),
+    ]
+}
+
+// The number of a word, counted from 0.
+fn place(text: &[u8]) -> usize {
+    let n = number(text);
+    if n == 0 { 0 } else { (n - 1) as usize }
+}
+
+fn run_snow3g(line: &[u8]) {
+    let k = four(nth(line, 2));
+    let iv = four(nth(line, 3));
+    let r = streams::octets_of(snow3g::keystream_word(k, iv, place(nth(line, 4))));
+    show(nth(line, 1), &r);
+}
+
+fn run_zuc(line: &[u8]) {
+    let key = block(nth(line, 2));
+    let iv = block(nth(line, 3));
+    let r = streams::octets_of(zuc::stream_word(key, iv, place(nth(line, 4))));
+    show(nth(line, 1), &r);
 }
 
 fn run_aes(line: &[u8]) {
@@ -139,6 +202,9 @@ fn message_place(first: u8, second: u8) -> usize {
     if first == b'n' {
         return 6;
     }
+    if first == b'u' {
+        return 6;
+    }
     if second == b't' { 4 } else { 3 }
 }
 
@@ -149,6 +215,18 @@ fn run_on(first: u8, second: u8, line: &[u8], m: &mut [u8]) {
     }
     if first == b'n' {
         run_nas(second, line, m);
+        return;
+    }
+    if first == b'u' {
+        run_uia2(line, m);
+        return;
+    }
+    if first == b's' {
+        run_snow3g(line);
+        return;
+    }
+    if first == b'z' {
+        run_zuc(line);
         return;
     }
     run_mode(second, line, m);
@@ -176,7 +254,7 @@ fn run_lines(text: &[u8]) {
 }
 
 fn main() {
-    let mut space = io::large_buffer();
+    let mut space = [0u8; 0x4_0000];
     let n = io::read_full(0, &mut space);
     run_lines(&space[..n]);
 }

@@ -1,0 +1,4 @@
+pub mod Field
+pub mod Stream
+pub mod Covers
+pub mod Laws

@@ -16,15 +16,12 @@ Inv-loop text from stop at₀ at =
 abbrev μ-loop : tie.MeasureT-loop
 μ-loop text from stop at₀ at = length text - at
 
--- src/read.rt:64:5
 loop-holds : tie.Need-loop-holds Inv-loop μ-loop
 loop-holds c = search needs
 
--- src/read.rt:65:12
 shared-slice-read-if1 : tie.Need-shared-slice-read-if1 Inv-loop μ-loop
 shared-slice-read-if1 c = search needs
 
--- src/read.rt:66:13
 returns : tie.Need-returns Inv-loop μ-loop
 returns c = (
   laws.found _ (c .before .before .before .loop .at) (omega arith) _ _ (c .if1 .taken) (c .before .before .before .loop .inv .2),
@@ -32,20 +29,16 @@ returns c = (
   omega arith,
 )
 
--- src/read.rt:68:9
 add-at : tie.Need-add-at Inv-loop μ-loop
 add-at c = search needs
 
--- src/read.rt:64:5
 loop-less : tie.Need-loop-less Inv-loop μ-loop
 loop-less c = search needs
 
--- src/read.rt:64:5
 loop-again : tie.Need-loop-again Inv-loop μ-loop
 loop-again c =
     (omega arith, omega arith, laws.not-yet _ (c .before .before .before .loop .at) (omega arith) _ _ (c .if1 .left) (c .before .before .before .loop .inv .2))
 
--- src/read.rt:59:1
 returns-2 : tie.Need-returns-2 Inv-loop μ-loop
 returns-2 c = (laws.not-found _ (c .before .loop .at) _ _ (omega arith) (c .before .loop .inv .2), omega arith, omega arith)
 

@@ -1,78 +1,86 @@
 -- What holds of every code's algorithms: their lengths, octets, and that ciphering twice gives the octets back.
 use Prim.Native.Nat.{ℕ, zero, suc, _≤_}
 use mathlib.Core.Path.{_≡_, refl}
-use mathlib.Core.Bool.{Bool, true, false, cond, _||_}
+use mathlib.Core.Bool.{Bool, true, false, cond}
 use mathlib.Core.List.{List, [], _∷_}
 use native.Mathlib.Omega.{arith}
 use lib.ListN.{length}
 use lib.Dec.{eqb}
-use borrow.Author.Tests.{eqb-true}
+use borrow.Author.Tests.{ltb-true}
 use Rattle.aes.specs.Keys.{nia2By, nea2By}
 use Rattle.aes.specs.declared.Key.{Key}
 use Rattle.aes.specs.Laws.{Octets}
 use Rattle.aes.proofs.Laws.{nia2-length, nia2-octets, nea2-length, nea2-octets, nea2-twice}
-use Rattle.algorithms.specs.Codes.{isBuilt, codeOf, cipherOf}
+use Rattle.streams.specs.Laws.{Laws}
+use Rattle.snow3g.specs.Uea2.{nea1Of}
+use Rattle.snow3g.specs.Uia2.{nia1Of}
+use Rattle.snow3g.proofs.Laws.{laws as laws1}
+use Rattle.algorithms.specs.Codes.{isBuilt, byCode, keyed, codeOf, cipherOf}
 
-abbrev zeros : List ℕ
-zeros = 0 ∷ 0 ∷ 0 ∷ 0 ∷ []
+-- a built code fits in four bits
+pub built-small : (n : ℕ) → isBuilt n ≡ true → n ≤ 15
+unfolding isBuilt
+built-small n e = omega (arith, ltb-true n 3 e)
 
-zeros-octets : Octets zeros
+-- an algorithm
+abbrev Algorithm : Type 0
+Algorithm = Key → ℕ → ℕ → ℕ → List ℕ → List ℕ
+
+-- what holds of each algorithm holds of the one that a code names
+by-code : (P : Algorithm → Type 0) (n : ℕ) (null one two : Algorithm) → P null → P one → P two → P (byCode n null one two)
+by-code P n null one two a b c = go (eqb n 1) (eqb n 2)
+  where
+    go : (s t : Bool) → P (cond s one (cond t two null))
+    go true t = b
+    go false true = c
+    go false false = a
+
+-- and at the same arguments it is what that one gives
+pub by-args : (n : ℕ) (null one two : Algorithm) (key : Key) (c b d : ℕ) (m : List ℕ)
+    → byCode n null one two key c b d m ≡ byCode n (null key c b d m) (one key c b d m) (two key c b d m)
+by-args n null one two key c b d m = go (eqb n 1) (eqb n 2)
+  where
+    go : (s t : Bool) → cond s one (cond t two null) key c b d m ≡ cond s (one key c b d m) (cond t (two key c b d m) (null key c b d m))
+    go true t = refl
+    go false true = refl
+    go false false = refl
+
+zeros-octets : Octets (0 ∷ 0 ∷ 0 ∷ 0 ∷ [])
 zeros-octets zero = omega arith
 zeros-octets (suc zero) = omega arith
 zeros-octets (suc (suc zero)) = omega arith
 zeros-octets (suc (suc (suc zero))) = omega arith
 zeros-octets (suc (suc (suc (suc i)))) = omega arith
 
-either : (s t : Bool) → s || t ≡ true → s ≡ false → t ≡ true
-either true t e q = absurd (let z : _≡_ {A = ℕ} 0 1 = cc in omega arith)
-either false t e q = e
-
--- a built code fits in four bits
-pub built-small : (n : ℕ) → isBuilt n ≡ true → n ≤ 15
-unfolding isBuilt
-built-small n e = go (eqb n 0) refl
-  where
-    go : (t : Bool) → eqb n 0 ≡ t → n ≤ 15
-    go true q = omega (arith, eqb-true n 0 q)
-    go false q = omega (arith, eqb-true n 2 (either (eqb n 0) (eqb n 2) e q))
-
 module _ (n : ℕ) (key : Key) (c b d : ℕ) (m : List ℕ) where
+  one : Laws (nia1Of (key .octets) c b d) (nea1Of (key .octets) c b d)
+  one = laws1 (key .octets) c b d
+
   pub code-length : length (codeOf n key c b d m) ≡ 4
   unfolding codeOf
-  code-length = go (eqb n 2)
-    where
-      go : (t : Bool) → length (cond t (nia2By key c b d m) zeros) ≡ 4
-      go true = nia2-length key c b d m
-      go false = refl
+  code-length =
+      by-code (λ f. length (f key c b d m) ≡ 4) n _ (keyed nia1Of) nia2By refl (one .code-length m) (nia2-length key c b d m)
 
   pub code-octets : Octets (key .schedule) → Octets (codeOf n key c b d m)
   unfolding codeOf
-  code-octets k = go (eqb n 2)
-    where
-      go : (t : Bool) → Octets (cond t (nia2By key c b d m) zeros)
-      go true = nia2-octets key c b d m k
-      go false = zeros-octets
+  code-octets k =
+      by-code (λ f. Octets (f key c b d m)) n _ (keyed nia1Of) nia2By
+      zeros-octets (one .code-octets m) (nia2-octets key c b d m k)
 
   pub cipher-length : length (cipherOf n key c b d m) ≡ length m
   unfolding cipherOf
-  cipher-length = go (eqb n 2)
-    where
-      go : (t : Bool) → length (cond t (nea2By key c b d m) m) ≡ length m
-      go true = nea2-length key c b d m
-      go false = refl
+  cipher-length =
+      by-code (λ f. length (f key c b d m) ≡ length m) n _ (keyed nea1Of) nea2By
+      refl (one .cipher-length m) (nea2-length key c b d m)
 
   pub cipher-octets : Octets (key .schedule) → Octets m → Octets (cipherOf n key c b d m)
   unfolding cipherOf
-  cipher-octets k h = go (eqb n 2)
-    where
-      go : (t : Bool) → Octets (cond t (nea2By key c b d m) m)
-      go true = nea2-octets key c b d m k h
-      go false = h
+  cipher-octets k h =
+      by-code (λ f. Octets (f key c b d m)) n _ (keyed nea1Of) nea2By
+      h (one .cipher-octets m h) (nea2-octets key c b d m k h)
 
   pub cipher-twice : cipherOf n key c b d (cipherOf n key c b d m) ≡ m
   unfolding cipherOf
-  cipher-twice = go (eqb n 2)
-    where
-      go : (t : Bool) → cond t (nea2By key c b d (cond t (nea2By key c b d m) m)) (cond t (nea2By key c b d m) m) ≡ m
-      go true = nea2-twice key c b d m
-      go false = refl
+  cipher-twice =
+      by-code (λ f. f key c b d (f key c b d m) ≡ m) n _ (keyed nea1Of) nea2By
+      refl (one .cipher-twice m) (nea2-twice key c b d m)

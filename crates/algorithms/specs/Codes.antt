@@ -1,19 +1,29 @@
--- An algorithm by its code, TS 24.501 Table 9.11.3.34.1; document 01, "Words": codes 0 and 2 are built.
+-- An algorithm by its code, TS 24.501 Table 9.11.3.34.1; document 01, "Words", with document 02, item 2: codes 0 to 2 are built.
 -- A code that is not built does as null does; every call on a context refuses it first.
 use Prim.Native.Nat.{ℕ}
-use mathlib.Core.Bool.{Bool, cond, _||_}
+use mathlib.Core.Bool.{Bool, cond}
 use mathlib.Core.List.{List, [], _∷_}
-use lib.Dec.{eqb}
+use lib.Dec.{eqb, ltb}
 use Rattle.aes.specs.Keys.{nia2By, nea2By}
 use Rattle.aes.specs.declared.Key.{Key}
+use Rattle.snow3g.specs.Uea2.{nea1Of}
+use Rattle.snow3g.specs.Uia2.{nia1Of}
 
 unfoldable pub isBuilt : ℕ → Bool
-isBuilt n = eqb n 0 || eqb n 2
+isBuilt n = ltb n 3
+
+-- null, or what codes 1 and 2 name
+abbrev pub byCode : {A : Type 0} → ℕ → A → A → A → A
+byCode n null one two = cond (eqb n 1) one (cond (eqb n 2) two null)
+
+-- an algorithm that takes the 16 octets of a key as they are
+abbrev pub keyed : {A : Type 0} → (List ℕ → A) → Key → A
+keyed f key = f (key .octets)
 
 -- the code of a message, by key, COUNT, bearer and direction; null makes four zero octets
 unfoldable pub codeOf : ℕ → Key → ℕ → ℕ → ℕ → List ℕ → List ℕ
-codeOf n key c b d m = cond (eqb n 2) (nia2By key c b d m) (0 ∷ 0 ∷ 0 ∷ 0 ∷ [])
+codeOf n = byCode n (λ key c b d m. 0 ∷ 0 ∷ 0 ∷ 0 ∷ []) (keyed nia1Of) nia2By
 
 -- the octets ciphered; null changes none
 unfoldable pub cipherOf : ℕ → Key → ℕ → ℕ → ℕ → List ℕ → List ℕ
-cipherOf n key c b d m = cond (eqb n 2) (nea2By key c b d m) m
+cipherOf n = byCode n (λ key c b d m. m) (keyed nea1Of) nea2By

@@ -1,15 +1,27 @@
-// An algorithm by its code (TS 24.501 Table 9.11.3.34.1): 0 is null and 2 is AES. Codes 1 and 3 take their place beside 2.
+// An algorithm by its code (TS 24.501 Table 9.11.3.34.1): 0 is null, 1 SNOW 3G and 2 AES. Code 3 takes its place beside them.
 ghost use mathlib.Core.Path.{_≡_};
-ghost use Rattle.algorithms.specs.Codes.{isBuilt, codeOf, cipherOf};
+ghost use Rattle.snow3g.specs.Uea2.{nea1Of};
+ghost use Rattle.snow3g.specs.Uia2.{nia1Of};
+ghost use Rattle.algorithms.specs.Codes.{isBuilt, keyed, codeOf, cipherOf};
 use aes::Key;
 
 pub fn built(algorithm: u8) -> bool
     ensures { λ r. ⌜ r ≡ isBuilt algorithm ⌝ }
 {
-    if algorithm == 0 {
-        return true;
-    }
-    algorithm == 2
+    algorithm < 3
+}
+
+// SNOW 3G takes a key's 16 octets as they are.
+fn nia1(key: Key, count: u32, bearer: u8, direction: u8, message: &[u8]) -> [u8; 4]
+    ensures { λ r. ⌜ r ≡ keyed nia1Of key count bearer direction (now (message .entry)) ⌝ }
+{
+    snow3g::nia1(key.octets(), count, bearer, direction, message)
+}
+
+fn nea1(key: Key, count: u32, bearer: u8, direction: u8, octets: &mut [u8])
+    ensures { λ r. ⌜ now (octets .exit) ≡ keyed nea1Of key count bearer direction (now (octets .entry)) ⌝ }
+{
+    snow3g::nea1(key.octets(), count, bearer, direction, octets);
 }
 
 // The code of a message.
@@ -23,6 +35,9 @@ pub fn code(
 ) -> [u8; 4]
     ensures { λ r. ⌜ r ≡ codeOf algorithm key count bearer direction (now (message .entry)) ⌝ }
 {
+    if algorithm == 1 {
+        return nia1(key, count, bearer, direction, message);
+    }
     if algorithm == 2 {
         return aes::nia2(key, count, bearer, direction, message);
     }
@@ -33,6 +48,10 @@ pub fn code(
 pub fn cipher(algorithm: u8, key: Key, count: u32, bearer: u8, direction: u8, octets: &mut [u8])
     ensures { λ r. ⌜ now (octets .exit) ≡ cipherOf algorithm key count bearer direction (now (octets .entry)) ⌝ }
 {
+    if algorithm == 1 {
+        nea1(key, count, bearer, direction, octets);
+        return;
+    }
     if algorithm == 2 {
         aes::nea2(key, count, bearer, direction, octets);
     }

@@ -1,14 +1,17 @@
 -- What the contexts keep is their keys' own.
 use Prim.Native.Nat.{ℕ}
-use mathlib.Core.Path.{_≡_, sym, ap, subst}
+use mathlib.Core.Path.{_≡_, sym, ap, _∙_, subst}
 use mathlib.Core.Bool.{Bool, true, false, cond}
 use mathlib.Core.Logic.{⊎-elim}
 use mathlib.Core.List.{List, [], _∷_}
 use lib.Dec.{eqb}
 use lib.ListN.{length, getD, replicate}
-use Rattle.aes.specs.Keys.{Kept}
+use Rattle.aes.specs.Keys.{Kept, nia2By, nea2By}
+use Rattle.snow3g.specs.Uea2.{nea1Of}
+use Rattle.snow3g.specs.Uia2.{nia1Of}
 use Rattle.aes.proofs.Laws.{made-kept, nia2-standard, nea2-standard}
-use Rattle.algorithms.specs.Codes.{codeOf, cipherOf}
+use Rattle.algorithms.specs.Codes.{keyed, codeOf, cipherOf}
+use Rattle.algorithms.proofs.Laws.{by-args}
 use Rattle.nas_core.specs.declared.Core.{Core}
 use Rattle.nas_core.specs.Keyed.{codeBy, payload}
 use Rattle.nas_core.specs.Refusals.{unbuilt}
@@ -63,6 +66,10 @@ always =
     record {
       made = made;
       after = after;
-      codes = λ x h c b d m. rw (nia2-standard (x .core .«integrity_key») c b d m (h .integrity));
-      payloads = λ x h t c b d m. rw (nea2-standard (x .core .«ciphering_key») c b d m (h .ciphering));
+      codes = λ x h c b d m.
+          let k = x .core .«integrity_key» in
+          by-args (x .core .integrity) _ (keyed nia1Of) nia2By k c b d m ∙ rw (nia2-standard k c b d m (h .integrity));
+      payloads = λ x h t c b d m.
+          let k = x .core .«ciphering_key» in
+          rw (by-args (x .core .ciphering) (λ key c b d m. m) (keyed nea1Of) nea2By k c b d m, nea2-standard k c b d m (h .ciphering));
     }

@@ -6,7 +6,7 @@ use mathlib.Core.Logic.{inr}
 use mathlib.Core.List.{List, [], _∷_}
 use native.Mathlib.Omega.{arith}
 use lib.ListN.{getD, drop}
-use borrow.Author.Tests.{eqb-true, ne-eqb}
+use borrow.Author.Tests.{eqb-true}
 use Rattle.count.specs.declared.Opening.{Opening}
 use Rattle.count.specs.declared.Opening.the-variants.{Late, Forward, None, Wrong}
 use Rattle.count.specs.declared.Candidate.the-variants.{Nothing}
@@ -98,8 +98,7 @@ module _ (x : Context) (w : wraps (x .core) ≡ true) where
 
   code-zero : (c b d : ℕ) (m : List ℕ) → codeBy (x .core) c b d m ≡ 0 ∷ 0 ∷ 0 ∷ 0 ∷ []
   unfolding codeBy codeOf wraps
-  code-zero c b d m =
-      let z = eqb-true (x .core .integrity) 0 w in rw (ne-eqb (x .core .integrity) 2 (λ e. omega arith))
+  code-zero c b d m = rw (eqb-true (x .core .integrity) 0 w)
 
 -- what an open call of a message finds whose code begins at octet q, on the record at p
 module _ (x : Context) (w : wraps (x .core) ≡ true) (p b d q : ℕ) (m : List ℕ) where

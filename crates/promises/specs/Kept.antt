@@ -4,10 +4,12 @@ use Prim.Native.Nat.{ℕ}
 use mathlib.Core.Path.{_≡_}
 use mathlib.Core.Bool.{Bool, cond}
 use mathlib.Core.List.{List, [], _∷_}
-use lib.Dec.{eqb}
 use lib.ListN.{length}
 use Rattle.aes.specs.Nas.{nia2Of, nea2Of}
 use Rattle.aes.specs.Keys.{Kept}
+use Rattle.snow3g.specs.Uea2.{nea1Of}
+use Rattle.snow3g.specs.Uia2.{nia1Of}
+use Rattle.algorithms.specs.Codes.{byCode}
 use Rattle.nas_core.specs.Keyed.{codeBy, payload}
 use Rattle.nas_5gs.specs.declared.Context.{Context}
 use Rattle.promises.specs.Calls.{Making, makes, Call, gives}
@@ -24,6 +26,8 @@ pub record Always : Type 0 where
   pub after : (k : Call) (x : Context) → length (x .records) ≡ 4 → KeptIn x → KeptIn (gives k x .context)
   -- "answers do not change": what the calls make with the keys is what the standards make with the 16 octets
   pub codes : (x : Context) → KeptIn x → (c b d : ℕ) (m : List ℕ)
-      → codeBy (x .core) c b d m ≡ cond (eqb (x .core .integrity) 2) (nia2Of (x .core .«integrity_key» .octets) c b d m) (0 ∷ 0 ∷ 0 ∷ 0 ∷ [])
+      → let k = x .core .«integrity_key» .octets in
+      codeBy (x .core) c b d m ≡ byCode (x .core .integrity) (0 ∷ 0 ∷ 0 ∷ 0 ∷ []) (nia1Of k c b d m) (nia2Of k c b d m)
   pub payloads : (x : Context) → KeptIn x → (t : Bool) (c b d : ℕ) (m : List ℕ)
-      → payload (x .core) t c b d m ≡ cond t (cond (eqb (x .core .ciphering) 2) (nea2Of (x .core .«ciphering_key» .octets) c b d m) m) m
+      → let k = x .core .«ciphering_key» .octets in
+      payload (x .core) t c b d m ≡ cond t (byCode (x .core .ciphering) m (nea1Of k c b d m) (nea2Of k c b d m)) m

@@ -1,6 +1,6 @@
-use borrow.Author.Needs.{needs}
 use Rattle.algorithms.proofs.Tests.{ladder}
 use Rattle.algorithms.specs.Codes.{isBuilt}
+use borrow.Author.Needs.{needs}
 use Rattle.algorithms.proofs.built.Statement.{statement}
 use Rattle.algorithms.proofs.built.Tie as tie
 
@@ -8,12 +8,8 @@ returns : tie.Need-returns
 unfolding isBuilt
 returns c = search (needs, ladder)
 
-returns-2 : tie.Need-returns-2
-unfolding isBuilt
-returns-2 c = search (needs, ladder)
-
 pub built-spec : {M : Type 1} → statement M
 built-spec =
     tie.close
     (tie.spec
-    returns returns-2)
+    returns)

@@ -12,8 +12,12 @@ returns-2 : tie.Need-returns-2
 unfolding codeOf
 returns-2 c = search (needs, ladder)
 
+returns-3 : tie.Need-returns-3
+unfolding codeOf
+returns-3 c = search (needs, ladder)
+
 pub code-spec : {M : Type 1} → statement M
 code-spec =
     tie.close
     (tie.spec
-    (λ c κs. search needs) returns returns-2)
+    (λ c κs. search needs) returns (λ c κs. search needs) returns-2 returns-3)

@@ -2,7 +2,7 @@
 """Document 01 read directly, over the hex lines: lines on standard input, answers on standard output.
 
 Written from document 01 and the page on the hex lines alone. AES, CMAC and counter mode are OpenSSL's, by the Debian
-package python3-cryptography; SNOW 3G is streams.py. The numbers in comments are document 01's refusals.
+package python3-cryptography; SNOW 3G and ZUC are streams.py. The numbers in comments are document 01's refusals.
 """
 import re
 import sys
@@ -41,7 +41,7 @@ def first_octets(count, bearer, direction):
 
 
 def built(code):
-    return code in (0, 1, 2)
+    return code in (0, 1, 2, 3)
 
 
 class Context:
@@ -72,8 +72,9 @@ class Context:
     def code(self, count, bearer, direction, octets):
         if self.integrity == 0:
             return bytes(4)
-        if self.integrity == 1:
-            return streams.nia1(self.integrity_key, count, bearer, direction, octets)
+        if self.integrity in (1, 3):
+            code = streams.nia1 if self.integrity == 1 else streams.nia3
+            return code(self.integrity_key, count, bearer, direction, octets)
         made = cmac.CMAC(algorithms.AES(self.integrity_key))
         made.update(first_octets(count, bearer, direction) + octets)
         return made.finalize()[:4]
@@ -81,8 +82,9 @@ class Context:
     def cipher(self, count, bearer, direction, octets):
         if self.ciphering == 0:
             return octets
-        if self.ciphering == 1:
-            return streams.nea1(self.ciphering_key, count, bearer, direction, octets)
+        if self.ciphering in (1, 3):
+            cipher = streams.nea1 if self.ciphering == 1 else streams.nea3
+            return cipher(self.ciphering_key, count, bearer, direction, octets)
         start = first_octets(count, bearer, direction) + bytes(8)
         return Cipher(algorithms.AES(self.ciphering_key), modes.CTR(start)).encryptor().update(octets)
 

@@ -40,7 +40,7 @@ class Maker:
         if self.rarely(0.02):
             return self.pick(0, 1, 2, 3, 4, 7, 8, 255), self.pick(0, 1, 2, 3, 4, 7, 8, 255)
         if not self.rust and self.rarely(0.5):
-            return self.pick(0, 1, 2), self.pick(0, 1, 2)
+            return self.pick(0, 1, 2, 3), self.pick(0, 1, 2, 3)
         return self.pick((2, 2), (2, 2), (2, 2), (2, 2), (2, 0), (0, 0))
 
     def selection(self):

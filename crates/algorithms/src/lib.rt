@@ -1,27 +1,41 @@
-// An algorithm by its code (TS 24.501 Table 9.11.3.34.1): 0 is null, 1 SNOW 3G and 2 AES. Code 3 takes its place beside them.
+// An algorithm by its code (TS 24.501 Table 9.11.3.34.1): 0 is null, 1 SNOW 3G, 2 AES and 3 ZUC.
 ghost use mathlib.Core.Path.{_≡_};
 ghost use Rattle.snow3g.specs.Uea2.{nea1Of};
 ghost use Rattle.snow3g.specs.Uia2.{nia1Of};
+ghost use Rattle.zuc.specs.Ciphering.{nea3Of};
+ghost use Rattle.zuc.specs.Integrity.{nia3Of};
 ghost use Rattle.algorithms.specs.Codes.{isBuilt, keyed, codeOf, cipherOf};
 use aes::Key;
 
 pub fn built(algorithm: u8) -> bool
     ensures { λ r. ⌜ r ≡ isBuilt algorithm ⌝ }
 {
-    algorithm < 3
+    algorithm < 4
 }
 
-// SNOW 3G takes a key's 16 octets as they are.
+// SNOW 3G and ZUC take a key's 16 octets as they are.
 fn nia1(key: Key, count: u32, bearer: u8, direction: u8, message: &[u8]) -> [u8; 4]
     ensures { λ r. ⌜ r ≡ keyed nia1Of key count bearer direction (now (message .entry)) ⌝ }
 {
     snow3g::nia1(key.octets(), count, bearer, direction, message)
 }
 
+fn nia3(key: Key, count: u32, bearer: u8, direction: u8, message: &[u8]) -> [u8; 4]
+    ensures { λ r. ⌜ r ≡ keyed nia3Of key count bearer direction (now (message .entry)) ⌝ }
+{
+    zuc::nia3(key.octets(), count, bearer, direction, message)
+}
+
 fn nea1(key: Key, count: u32, bearer: u8, direction: u8, octets: &mut [u8])
     ensures { λ r. ⌜ now (octets .exit) ≡ keyed nea1Of key count bearer direction (now (octets .entry)) ⌝ }
 {
     snow3g::nea1(key.octets(), count, bearer, direction, octets);
+}
+
+fn nea3(key: Key, count: u32, bearer: u8, direction: u8, octets: &mut [u8])
+    ensures { λ r. ⌜ now (octets .exit) ≡ keyed nea3Of key count bearer direction (now (octets .entry)) ⌝ }
+{
+    zuc::nea3(key.octets(), count, bearer, direction, octets);
 }
 
 // The code of a message.
@@ -41,6 +55,9 @@ pub fn code(
     if algorithm == 2 {
         return aes::nia2(key, count, bearer, direction, message);
     }
+    if algorithm == 3 {
+        return nia3(key, count, bearer, direction, message);
+    }
     [0, 0, 0, 0]
 }
 
@@ -54,5 +71,9 @@ pub fn cipher(algorithm: u8, key: Key, count: u32, bearer: u8, direction: u8, oc
     }
     if algorithm == 2 {
         aes::nea2(key, count, bearer, direction, octets);
+        return;
+    }
+    if algorithm == 3 {
+        nea3(key, count, bearer, direction, octets);
     }
 }

@@ -9,6 +9,8 @@ use lib.ListN.{length, getD, replicate}
 use Rattle.aes.specs.Keys.{Kept, nia2By, nea2By}
 use Rattle.snow3g.specs.Uea2.{nea1Of}
 use Rattle.snow3g.specs.Uia2.{nia1Of}
+use Rattle.zuc.specs.Ciphering.{nea3Of}
+use Rattle.zuc.specs.Integrity.{nia3Of}
 use Rattle.aes.proofs.Laws.{made-kept, nia2-standard, nea2-standard}
 use Rattle.algorithms.specs.Codes.{keyed, codeOf, cipherOf}
 use Rattle.algorithms.proofs.Laws.{by-args}
@@ -68,8 +70,8 @@ always =
       after = after;
       codes = λ x h c b d m.
           let k = x .core .«integrity_key» in
-          by-args (x .core .integrity) _ (keyed nia1Of) nia2By k c b d m ∙ rw (nia2-standard k c b d m (h .integrity));
+          by-args (x .core .integrity) _ (keyed nia1Of) nia2By (keyed nia3Of) k c b d m ∙ rw (nia2-standard k c b d m (h .integrity));
       payloads = λ x h t c b d m.
           let k = x .core .«ciphering_key» in
-          rw (by-args (x .core .ciphering) (λ key c b d m. m) (keyed nea1Of) nea2By k c b d m, nea2-standard k c b d m (h .ciphering));
+          rw (by-args (x .core .ciphering) (λ key c b d m. m) (keyed nea1Of) nea2By (keyed nea3Of) k c b d m, nea2-standard k c b d m (h .ciphering));
     }

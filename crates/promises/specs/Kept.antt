@@ -9,6 +9,8 @@ use Rattle.aes.specs.Nas.{nia2Of, nea2Of}
 use Rattle.aes.specs.Keys.{Kept}
 use Rattle.snow3g.specs.Uea2.{nea1Of}
 use Rattle.snow3g.specs.Uia2.{nia1Of}
+use Rattle.zuc.specs.Ciphering.{nea3Of}
+use Rattle.zuc.specs.Integrity.{nia3Of}
 use Rattle.algorithms.specs.Codes.{byCode}
 use Rattle.nas_core.specs.Keyed.{codeBy, payload}
 use Rattle.nas_5gs.specs.declared.Context.{Context}
@@ -27,7 +29,7 @@ pub record Always : Type 0 where
   -- "answers do not change": what the calls make with the keys is what the standards make with the 16 octets
   pub codes : (x : Context) → KeptIn x → (c b d : ℕ) (m : List ℕ)
       → let k = x .core .«integrity_key» .octets in
-      codeBy (x .core) c b d m ≡ byCode (x .core .integrity) (0 ∷ 0 ∷ 0 ∷ 0 ∷ []) (nia1Of k c b d m) (nia2Of k c b d m)
+      codeBy (x .core) c b d m ≡ byCode (x .core .integrity) (0 ∷ 0 ∷ 0 ∷ 0 ∷ []) (nia1Of k c b d m) (nia2Of k c b d m) (nia3Of k c b d m)
   pub payloads : (x : Context) → KeptIn x → (t : Bool) (c b d : ℕ) (m : List ℕ)
       → let k = x .core .«ciphering_key» .octets in
-      payload (x .core) t c b d m ≡ cond t (byCode (x .core .ciphering) m (nea1Of k c b d m) (nea2Of k c b d m)) m
+      payload (x .core) t c b d m ≡ cond t (byCode (x .core .ciphering) m (nea1Of k c b d m) (nea2Of k c b d m) (nea3Of k c b d m)) m

@@ -7,6 +7,7 @@ slot is out of step, and its lines are not compared until it is made anew. Every
 """
 import collections
 import sys
+from model import CONTAINER, Refusal, is_initial, outgoing, walk
 
 
 def slot_of(line):
@@ -16,20 +17,31 @@ def slot_of(line):
 
 LIMIT = 65535
 HOLDS = 65536           # octets of a line that the program holds
-HEADER = {"seal": 7, "opaque": 7, "open": 7, "epsseal": 6, "epsopen": 6}
-ROOM = {"seal": 5, "opaque": 5, "open": 4, "epsseal": 2, "epsopen": 2, "s1n1": 4}   # the word that says how much output is lent
+HEADER = {"seal": 7, "opaque": 7, "initial": 7, "open": 7, "open2": 7, "epsseal": 6, "epsopen": 6}
+ROOM = {"seal": 5, "opaque": 5, "initial": 3, "open": 4, "open2": 4, "epsseal": 2, "epsopen": 2, "s1n1": 4}     # the word that says how much output is lent
+OPENS = ("open", "open2")
+LATER = {0x4C: (0x29, 0x28), 0x45: (0x3C,)}     # what the tables have after the container
 
 
 def octets_of(word):
     return 0 if word == "-" else len(word) // 2
 
 
+def message_of(words):
+    return b"" if words[-1] == "-" else bytes.fromhex(words[-1])
+
+
 def carried(words):
     """How many octets count against the limit: the inner octets, or a container's value."""
     if words[0] == "s1n1v":
         return octets_of(words[-1])
-    if words[0] in ("open", "epsopen"):
+    if words[0] in OPENS + ("epsopen",):
         return octets_of(words[-1]) - HEADER[words[0]]
+    if words[0] == "initial":
+        try:
+            return len(outgoing(message_of(words), lambda octets: octets))
+        except Refusal:
+            return 0
     return octets_of(words[-1]) if words[0] in HEADER else 0
 
 
@@ -37,7 +49,7 @@ def wanted(words):
     """How many octets of output the call would write."""
     if words[0] == "s1n1":
         return 8
-    if words[0] in ("open", "epsopen"):
+    if words[0] in OPENS + ("epsopen",):
         return carried(words)
     return HEADER[words[0]] + carried(words)
 
@@ -47,31 +59,73 @@ def too_long(words):
 
 
 def too_short(words):
-    return words[0] in ROOM and int(words[ROOM[words[0]]], 16) < wanted(words)
+    if words[0] not in ROOM:
+        return False
+    rooms = [words[ROOM[words[0]]]]
+    if words[0] == "open2" and words[2] == "0" and message_of(words)[1] & 15 == 1:
+        rooms.append(words[5])
+    return any(int(room, 16) < wanted(words) for room in rooms)
+
+
+def framed_otherwise(message):
+    """How the Rust's decoder frames an initial message otherwise than the walk, if it does."""
+    try:
+        parts = [identifier for identifier, _ in walk(message)[1]]
+    except Refusal:
+        return "a length that runs past its message"
+    if CONTAINER in parts and any(i in LATER[message[2]] for i in parts[: parts.index(CONTAINER)]):
+        return "a container out of the table's order"
+    return None
+
+
+def count_of(answer):
+    words = answer.split(" ")
+    return words[2 if words[0] == "no" else 1]
+
+
+def initial_difference(words, ours, rust):
+    """Of those that item 9 lists."""
+    if words[0] == "initial":
+        if ours in ("no 9", "no 18") and rust == "no 6":
+            return "order in sealing an initial message", False
+        if ours == "no 9" and rust == "other":
+            return "REGISTRATION REQUEST and CONTROL PLANE SERVICE REQUEST", False
+        if ours == "no 18" and rust.startswith("ok"):
+            name = framed_otherwise(message_of(words))
+            return name and (name, True)
+    if words[0] in OPENS and words[2] == "0" and ours[:4] in ("no 8", "ok 0") and rust[:4] in ("no 8", "ok 0"):
+        message = message_of(words)
+        if message[1] & 15 == 1 and is_initial(message[7:]) and count_of(ours) == count_of(rust):
+            name = framed_otherwise(message[7:])
+            return name and (name, False)
+    return None
 
 
 def listed(line, ours, rust):
     """The name of a listed difference, and whether the contexts now differ."""
     words = line.split(" ")
-    null_with_cipher = words[0] in ("new", "restore", "reselect", "raw") and words[2:4] == ["00", "02"]
+    selects = words[0] in ("new", "restore", "reselect", "raw")
+    null_with_cipher = selects and words[2:4] == ["00", "02"]
     if rust == "cannot":
         return "a context put together by hand that the Rust cannot hold", True
     if null_with_cipher and rust == "no 13" and ours in ("ok", "no 16"):
         return "null integrity with a cipher", ours == "ok"
+    if selects and {"01", "03"} & set(words[2:4]) and rust == "no 13" and ours in ("ok", "no 16"):
+        return "codes 1 and 3, which the oracle has not", ours == "ok"
     if ours == "no 4" and rust != "bad" and too_long(words):
         return "limit of 65,535 octets", rust.startswith(("ok", "no 8"))
     if ours == "no 5" and rust != "bad" and too_short(words):
         return "lent output too short", rust.startswith(("ok", "no 8"))
     if words[0] == "s1n1" and ours == "no 16" and rust == "no 6":
         return "order in making S1-to-N1", False
-    return None
+    return initial_difference(words, ours, rust)
 
 
 def without_distance(call, answer):
     """An answer without the distance, which the Rust does not tell."""
     words = answer.split(" ")
     at = {"ok": 2, "no": 3}.get(words[0])
-    if call not in ("open", "epsopen", "n1s1v") or words[:2] != ["no", "8"] and words[0] != "ok":
+    if call not in OPENS + ("epsopen", "n1s1v") or words[:2] != ["no", "8"] and words[0] != "ok":
         return answer
     return " ".join(words[:at] + words[at + 1:])
 

@@ -42,7 +42,7 @@ def messages(n):
     sealed("seal", lambda: fresh().seal(False, 2, 1, 1, 65543, inner), message, 2)
     sealed("opaque seal", lambda: fresh().seal(True, 1, 1, 2, 65543, inner), message, 2)
     for _ in range(2):
-        opened("open", lambda: fresh().open(1, 2, 65543, bytes(message[:n + 7])), inner, plain)
+        opened("open", lambda: fresh().open(1, 2, 65543, 1, bytes(message[:n + 7])), inner, plain)
         message[n + 6] = 0xA5
 
 

@@ -1,7 +1,7 @@
 #!/usr/bin/env python3
 """Document 01 read directly, over the hex lines: lines on standard input, answers on standard output.
 
-Written from document 01 and the page on the hex lines alone. AES, CMAC and counter mode are OpenSSL's, by the Debian
+Written from document 01, the request pages and the page on the hex lines alone. AES, CMAC and counter mode are OpenSSL's, by the Debian
 package python3-cryptography; SNOW 3G and ZUC are streams.py. The numbers in comments are document 01's refusals.
 """
 import re
@@ -18,6 +18,9 @@ HOLDS = 65536           # octets of a line that the program holds
 UPLINK = bytes.fromhex("41 43 45 48 4C 4F 51 55 57 59 5C 5E 5F 66 67 69 6D")
 DOWNLINK = bytes.fromhex("42 44 46 47 4D 4E 50 52 54 56 58 5A 5B 5D 65 68 6A 6B 6C")
 EITHER = bytes.fromhex("64")
+
+INITIAL = (0x4C, 0x45)      # SERVICE REQUEST, DEREGISTRATION REQUEST from the UE
+CONTAINER = 0x71
 
 
 class Refusal(Exception):
@@ -136,7 +139,8 @@ class Context:
         self.use(place, count)
         return count, (count - next) % COUNTS
 
-    # the calls; each answers (COUNT, header type or None, octet or None, octets written), and those that receive the distance
+    # the calls; each answers (COUNT, header type or None, octet or None, octets written), those that receive also the distance, and
+    # open also the octets written in the second output
     def reselect(self, integrity, ciphering, integrity_key, ciphering_key):
         self.fault()
         refuse_if(13, not (built(integrity) and built(ciphering)))
@@ -168,7 +172,15 @@ class Context:
         self.use(place, count)
         return count, None, None, octets
 
-    def open(self, direction, connection, lent, message):
+    def initial(self, connection, lent, whole):
+        self.fault()
+        length = len(outgoing(whole, lambda octets: octets))
+        refuse_if(4, length > LIMIT)
+        refuse_if(5, lent < 7 + length)
+        count = self.to_send(place_of(0, connection))
+        return self.seal(True, 1, 0, connection, lent, outgoing(whole, lambda octets: self.cipher(count, connection, 0, octets)))
+
+    def open(self, direction, connection, lent, second, message):
         self.fault()
         refuse_if(1, len(message) < 7)
         refuse_if(2, message[0] != 0x7E)
@@ -176,7 +188,7 @@ class Context:
         refuse_if(3, not 1 <= header <= 4)
         refuse_if(1, len(message) == 7)
         refuse_if(4, len(message) - 7 > LIMIT)
-        refuse_if(5, lent < len(message) - 7)
+        refuse_if(5, lent < len(message) - 7 or header == 1 and direction == 0 and second < len(message) - 7)
         count, distance = self.verify(place_of(direction, connection), connection, direction, message[2:6], message[6:])
         plain = self.cipher(count, connection, direction, message[7:]) if header in (2, 4) else message[7:]
         answer = count, header, None, plain, distance
@@ -184,9 +196,10 @@ class Context:
             kind = look(plain)
             together(header, kind)
             right_way(kind, direction)
+            handed = inside(header, direction, plain, lambda octets: self.cipher(count, connection, direction, octets))
         except Refusal as content:
-            raise Refusal(8, (answer, content.number))
-        return answer
+            raise Refusal(8, (answer + (b"",), content.number))
+        return answer + (handed,)
 
     def eps_seal(self, lent, inner):
         self.fault()
@@ -268,6 +281,56 @@ def right_way(kind, direction):
     refuse_if(11, kind is not None and (kind in UPLINK and direction == 1 or kind in DOWNLINK and direction == 0))
 
 
+# initial messages and their container (document 02, item 9)
+def is_initial(message):
+    return len(message) >= 3 and message[0] == 0x7E and message[1] & 15 == 0 and message[2] in INITIAL
+
+
+def walk(message):
+    """The length of the mandatory part and the optional parts (identifier, value); 18 where a length runs past the end."""
+    left = iter(message)
+
+    def take(n):
+        octets = bytes(o for _, o in zip(range(n), left))
+        refuse_if(18, len(octets) < n)
+        return octets
+
+    take(4)
+    mandatory = 6 + len(take(int.from_bytes(take(2), "big")))
+    parts = []
+    for identifier in left:
+        digits = 0 if identifier & 0x80 else 2 if identifier & 0xF0 == 0x70 else 1
+        parts.append((identifier, take(int.from_bytes(take(digits), "big"))))
+    return mandatory, parts
+
+
+def container(message):
+    """The value of the first part 71, or None."""
+    return next((value for identifier, value in walk(message)[1] if identifier == CONTAINER), None)
+
+
+def outgoing(whole, cipher):
+    """The message that goes out for an initial message."""
+    refuse_if(9, not is_initial(whole))
+    mandatory, parts = walk(whole)
+    refuse_if(18, any(identifier == CONTAINER for identifier, _ in parts))
+    if not parts:
+        return whole
+    return whole[:mandatory] + bytes([CONTAINER]) + len(whole).to_bytes(4, "big")[2:] + cipher(whole)
+
+
+def inside(header, direction, plain, decipher):
+    """What is handed over beside a message that passed the look."""
+    if header != 1 or direction != 0 or not is_initial(plain):
+        return b""
+    value = container(plain)
+    if value is None:
+        return b""
+    message = decipher(value)
+    refuse_if(18, not (is_initial(message) and message[2] == plain[2]))
+    return message
+
+
 def refused_context():
     return Context(255, 255, bytes(16), bytes(16))
 
@@ -289,13 +352,15 @@ CALLS = {
     "new": CODES, "restore": CODES + [COUNT] * 4, "reselect": CODES, "window": [SLOT, OCTET],
     "seal": [SLOT, OCTET, DIRECTION, CONNECTION, LENT, OCTETS],
     "opaque": [SLOT, OCTET, DIRECTION, CONNECTION, LENT, OCTETS],
-    "open": [SLOT, DIRECTION, CONNECTION, LENT, OCTETS],
+    "initial": [SLOT, CONNECTION, LENT, OCTETS],
+    "open": [SLOT, DIRECTION, CONNECTION, LENT, OCTETS], "open2": [SLOT, DIRECTION, CONNECTION, LENT, LENT, OCTETS],
     "epsseal": [SLOT, LENT, OCTETS], "epsopen": [SLOT, LENT, OCTETS],
     "n1s1": [SLOT], "n1s1v": [SLOT, OCTET], "s1n1": [SLOT, OCTET, OCTET, LENT], "s1n1v": [SLOT, OCTETS],
     "raw": CODES + [OCTET] + [COUNT, BITS] * 4, "show": [SLOT],
 }
 METHODS = {
-    "seal": lambda c, *a: c.seal(False, *a), "opaque": lambda c, *a: c.seal(True, *a), "open": Context.open,
+    "seal": lambda c, *a: c.seal(False, *a), "opaque": lambda c, *a: c.seal(True, *a), "initial": Context.initial,
+    "open": lambda c, d, k, lent, message: c.open(d, k, lent, lent, message), "open2": Context.open,
     "epsseal": Context.eps_seal, "epsopen": Context.eps_open, "n1s1": Context.n1_to_s1,
     "n1s1v": Context.verify_n1_to_s1, "s1n1": Context.s1_to_n1, "s1n1v": Context.verify_s1_to_n1,
     "reselect": Context.reselect, "window": Context.window,
@@ -315,11 +380,13 @@ def parsed(line):
 
 
 def answer_line(answer, carried=None):
-    count, header, octet, octets, *distance = answer
+    count, header, octet, octets, *received = answer
+    distance, second = received[:1], received[1:]
     words = [f"{n:08x}" for n in (count, *distance)] + [f"{len(octets):04x}"]
     words += [f"{n:02x}" for n in (header, octet) if n is not None]
     words += [str(carried)] if carried is not None else []
-    return " ".join(words + [octets.hex() or "-"])
+    words += [octets.hex() or "-"]
+    return " ".join(words + [word for o in second for word in (f"{len(o):04x}", o.hex() or "-")])
 
 
 class Session:

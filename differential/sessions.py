@@ -2,14 +2,15 @@
 """Random sessions of hex lines:  sessions.py SEED LINES [--rust]  prints the lines.
 
 Every call; messages lost, repeated, reordered, damaged, cut; lengths around each boundary; COUNTs near the end; null
-integrity; codes that are not built; contexts put together by hand; odd lines. With --rust few lines lie outside what
+integrity; codes that are not built; contexts put together by hand; initial messages of random parts, with containers
+that are whole, of another message, of another COUNT, or cut; odd lines. With --rust few lines lie outside what
 the Rust text can say (document 01, module 6), so that most slots stay comparable. The model runs along, so that the
 lines meet contexts in states worth asking; no answer is printed.
 """
 import random
 import sys
 import model
-from model import COUNTS, DOWNLINK, EITHER, UPLINK, Context, Session, place_of
+from model import CONTAINER, COUNTS, DOWNLINK, EITHER, INITIAL, UPLINK, Context, Session, place_of
 
 LENGTHS = [0, 1, 2, 3, 4, 5, 6, 7, 8, 9, 12, 13, 15, 16, 17, 28, 29, 31, 32, 33, 61, 63, 64, 65, 200]
 EDGES = [2036, 2037, 2038, 2040, 2041, 2044, 2045, 8191, 8192, 8193, 8200, 16377, 16378, 16384, 16385, 32768]
@@ -92,6 +93,53 @@ class Maker:
             return body
         return self.edged(message)
 
+    def part(self, identifier=None, value=None):
+        """An optional part: its identifier says how its length is written."""
+        if identifier is None:
+            identifier = self.pick(0x40, 0x50, 0x25, 0x29, 0x28, 0x3C, 0x70, 0x7F, 0x6F, 0x80, 0xC0, self.random.randrange(256))
+        if identifier >= 0x80:
+            return bytes([identifier])
+        if value is None:
+            value = self.random.randbytes(self.pick(0, 1, 2, 2, 2, 4, 32, CONTAINER))
+        digits = 2 if identifier >> 4 == 7 else 1
+        value = value[: 256 ** digits - 1]
+        return bytes([identifier]) + len(value).to_bytes(digits, "big") + value
+
+    def mandatory(self, kind):
+        identity = self.random.randbytes(7 if kind == 0x4C and not self.rarely(0.1) else self.pick(0, 1, 4, 11, 11, 13))
+        second = self.pick(0, 0, 0, 0x10, 0xF0)
+        return bytes([0x7E, second, kind, self.random.randrange(256)]) + len(identity).to_bytes(2, "big") + identity
+
+    def whole(self):
+        """An initial message as a host has it, sometimes none."""
+        message = self.mandatory(self.pick(*INITIAL) if not self.rarely(0.03) else self.random.choice(UPLINK))
+        parts = [self.part() for _ in range(self.pick(0, 1, 1, 2, 2, 3, 5))]
+        if self.rarely(0.05):
+            parts.insert(self.random.randrange(len(parts) + 1), self.part(CONTAINER))
+        if self.rarely(0.001):
+            parts.append(self.part(0x7E, self.random.randbytes(self.pick(*LIMITS) - self.random.randrange(40) & 0xFFFF)))
+        message += b"".join(parts)
+        return message if not self.rarely(0.05) else message[: self.random.randrange(len(message) + 1)]
+
+    def contained(self, cipher):
+        """An initial message as it goes out: with its container, or with something else in its place."""
+        whole = self.whole()
+        try:
+            sent = model.outgoing(whole, cipher)
+        except model.Refusal:
+            return whole
+        x = self.random.random()
+        if x < 0.5:
+            return sent
+        mandatory, inner = whole[: model.walk(whole)[0]], self.whole()
+        if x < 0.7:
+            return mandatory + self.part() * self.random.randrange(3) + self.part(CONTAINER, cipher(inner)) + self.part() * self.random.randrange(3)
+        if x < 0.8:
+            return mandatory + self.part(CONTAINER, cipher(whole)) + self.part(CONTAINER, cipher(inner))
+        if x < 0.9:
+            return mandatory + self.part(CONTAINER, inner)
+        return mandatory + self.part(CONTAINER, cipher(self.inner(0, 1)[:60]))
+
     def edged(self, message):
         if len(message) <= 2030 or self.rarely(0.2):
             return message
@@ -137,7 +185,22 @@ class Maker:
         d, c = self.random.randrange(2), self.pick(1, 1, 1, 2)
         header = self.pick(1, 2, 2, 2, 2, 3, 4) if not self.rarely(0.05) else self.pick(0, 5, 15, 16, 18, 255)
         inner = self.inner(d, header)
-        line = f"{call} {slot} {header:02x} {d} {c} {self.lent(7 + len(inner)):04x} {hexed(inner)}"
+        if header == 1 and d == 0 and self.rarely(0.3):
+            context = self.session.slots[slot]
+            count = min(context.next[place_of(d, c)], COUNTS - 1)
+            inner = self.contained(lambda octets: self.speaker(context, 0).cipher(count, c, d, octets))
+        return self.sent_by(slot, d, c, f"{call} {slot} {header:02x} {d} {c} {self.lent(7 + len(inner)):04x} {hexed(inner)}")
+
+    def initial(self, slot):
+        c, whole = self.pick(1, 1, 1, 2), self.whole()
+        try:
+            length = len(model.outgoing(whole, lambda octets: octets))
+        except model.Refusal:
+            length = len(whole)
+        return self.sent_by(slot, 0, c, f"initial {slot} {c} {self.lent(7 + length):04x} {hexed(whole)}")
+
+    def sent_by(self, slot, d, c, line):
+        """The line; what it seals may arrive later."""
         after = Session()
         after.slots[slot] = self.session.slots[slot].copy()
         answer = after.line(line).split(" ")
@@ -151,16 +214,27 @@ class Maker:
             if self.rarely(0.03):
                 d, c = self.random.randrange(2), self.pick(1, 2)
         else:
-            d, c = self.random.randrange(2), self.pick(1, 1, 1, 2)
-            header, context = self.pick(1, 2, 2, 2, 3, 4), self.session.slots[slot]
-            inner = self.inner(d, header)
-            speaker = self.speaker(context, place_of(d, c))
-            count = speaker.next[0]
-            payload = speaker.cipher(count, c, d, inner) if header in (2, 4) else inner
-            covered = bytes([count & 255]) + payload
-            message = bytes([0x7E, header]) + speaker.code(count, c, d, covered) + covered
+            d, c, message = self.spoken(slot)
         message = self.damaged(message)
-        return f"open {slot} {d} {c} {self.lent(len(message) - 7):04x} {hexed(message)}"
+        need = len(message) - 7
+        if not self.rarely(0.3):
+            return f"open {slot} {d} {c} {self.lent(need):04x} {hexed(message)}"
+        second = self.pick(need, need + 1, need + 9) if self.rust and not self.rarely(0.05) else self.pick(0, need, need - 1, need + 1)
+        return f"open2 {slot} {d} {c} {self.lent(need):04x} {min(max(second, 0), 0xFFFF):04x} {hexed(message)}"
+
+    def spoken(self, slot):
+        """A message that a context with the same keys seals at a COUNT of our choice."""
+        d, c = self.random.randrange(2), self.pick(1, 1, 1, 2)
+        header, context = self.pick(1, 2, 2, 2, 3, 4), self.session.slots[slot]
+        speaker = self.speaker(context, place_of(d, c))
+        count = speaker.next[0]
+        used = count if not self.rarely(0.05) else count + 1
+        inner = self.contained(lambda octets: speaker.cipher(used, c, 0, octets)) if self.rarely(0.3) else self.inner(d, header)
+        if model.is_initial(inner) and self.rarely(0.8):
+            d, header = 0, 1
+        payload = speaker.cipher(count, c, d, inner) if header in (2, 4) else inner
+        covered = bytes([count & 255]) + payload
+        return d, c, bytes([0x7E, header]) + speaker.code(count, c, d, covered) + covered
 
     def eps_seal(self, slot):
         inner = self.eps()
@@ -219,8 +293,9 @@ class Maker:
 
     def line_of(self, slot):
         x = self.random.random()
-        if x < 0.24: return self.seal(slot, "seal")
-        if x < 0.30: return self.seal(slot, "opaque")
+        if x < 0.20: return self.seal(slot, "seal")
+        if x < 0.26: return self.seal(slot, "opaque")
+        if x < 0.30: return self.initial(slot)
         if x < 0.66: return self.open(slot)
         if x < 0.70: return self.eps_seal(slot)
         if x < 0.76: return self.eps_open(slot)

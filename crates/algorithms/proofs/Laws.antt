@@ -26,11 +26,11 @@ unfolding isBuilt
 built-small n e = omega (arith, ltb-true n 4 e)
 
 -- an algorithm
-abbrev Algorithm : Type 0
+abbrev pub Algorithm : Type 0
 Algorithm = Key → ℕ → ℕ → ℕ → List ℕ → List ℕ
 
 -- what holds of each algorithm holds of the one that a code names
-by-code : (P : Algorithm → Type 0) (n : ℕ) (null one two three : Algorithm) → P null → P one → P two → P three → P (byCode n null one two three)
+pub by-code : (P : Algorithm → Type 0) (n : ℕ) (null one two three : Algorithm) → P null → P one → P two → P three → P (byCode n null one two three)
 by-code P n null one two three a b c d = go (eqb n 1) (eqb n 2) (eqb n 3)
   where
     go : (s t u : Bool) → P (cond s one (cond t two (cond u three null)))

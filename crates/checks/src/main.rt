@@ -38,6 +38,7 @@ fn open_number(done: OpenDone) -> u8 {
             distance: _,
             wrote: _,
             header_type: _,
+            second: _,
         } => 0,
         OpenAnswer::Content {
             count: _,
@@ -59,6 +60,7 @@ fn open_carried(done: OpenDone) -> u8 {
             distance: _,
             wrote: _,
             header_type: _,
+            second: _,
         } => 0,
         OpenAnswer::Content {
             count: _,
@@ -80,6 +82,7 @@ fn open_count(done: OpenDone) -> u64 {
             distance: _,
             wrote: _,
             header_type: _,
+            second: _,
         } => count as u64,
         OpenAnswer::Content {
             count,
@@ -160,6 +163,7 @@ fn opaque_then_open(inner: &[u8]) -> u8 {
         &mut message,
     );
     let mut out = [0u8; 8];
+    let mut second = [0u8; 8];
     if 1 < inner.len() {
         return 255;
     }
@@ -169,6 +173,7 @@ fn opaque_then_open(inner: &[u8]) -> u8 {
         Connection::ThreeGpp,
         &message[..end],
         &mut out,
+        &mut second,
     );
     if use_number(sealed) != 0 {
         return 255;
@@ -258,11 +263,13 @@ fn send(context: Context) -> Sent {
 
 fn receive(context: Context, message: [u8; 11]) -> OpenDone {
     let mut out = [0u8; 4];
+    let mut second = [0u8; 1];
     context.open(
         Direction::Downlink,
         Connection::ThreeGpp,
         &message,
         &mut out,
+        &mut second,
     )
 }
 
@@ -302,7 +309,14 @@ fn pairing(header_type: u8, message_type: u8, direction: Direction) {
         &mut message,
     );
     let mut out = [0u8; 3];
-    let opened = fresh().open(direction, Connection::ThreeGpp, &message, &mut out);
+    let mut second = [0u8; 3];
+    let opened = fresh().open(
+        direction,
+        Connection::ThreeGpp,
+        &message,
+        &mut out,
+        &mut second,
+    );
     tell(b"  opaque seal: ", wide(use_number(sealed)));
     tell(b"  open: ", wide(open_number(opened)));
     tell(b"  carrying: ", wide(open_carried(opened)));
@@ -374,7 +388,14 @@ fn sealed(inner: &[u8], message: &mut [u8]) {
 }
 
 fn opened(inner: &[u8], message: &[u8], plain: &mut [u8]) {
-    let done = fresh().open(Direction::Downlink, Connection::Non3Gpp, message, plain);
+    let mut second = [0u8; 1];
+    let done = fresh().open(
+        Direction::Downlink,
+        Connection::Non3Gpp,
+        message,
+        plain,
+        &mut second,
+    );
     tell(b"open: ", wide(open_number(done)));
     tell_same(front(plain, inner.len()), inner);
 }

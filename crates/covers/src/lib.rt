@@ -3,7 +3,7 @@
 ghost use mathlib.Core.Path.{_≡_};
 ghost use mathlib.Core.List.{[]};
 ghost use Rattle.nas_5gs.specs.Leaves.{leaves, changeValues, useValues, openValues, epsOpenValues, octetValues, verifyValues};
-ghost use Rattle.promises.specs.Calls.{setWindow, seal5gs, sealOpaque, open5gs, sealEps, openEps, makeN1ToS1, verifyN1ToS1, makeS1ToN1, verifyS1ToN1, reselect, create, restore, nextCount, window, integrity, ciphering, outcome, gives, makes, reads};
+ghost use Rattle.promises.specs.Calls.{setWindow, seal5gs, sealOpaque, sealInitial, open5gs, sealEps, openEps, makeN1ToS1, verifyN1ToS1, makeS1ToN1, verifyS1ToN1, reselect, create, restore, nextCount, window, integrity, ciphering, outcome, gives, second, makes, reads};
 use nas_5gs::ChangeDone;
 use nas_5gs::Connection;
 use nas_5gs::Context;
@@ -81,16 +81,29 @@ pub fn seal_opaque(
     context.seal_opaque(header_type, direction, connection, inner, out)
 }
 
+pub fn seal_initial(
+    context: Context,
+    connection: Connection,
+    whole: &[u8],
+    out: &mut [u8],
+) -> UseDone
+    ensures { λ r. ⌜ outcome useValues (leaves (r .answer) (r .context) (now (out .exit))) ≡ gives (sealInitial connection (now (whole .entry)) (now (out .entry))) context ⌝ }
+{
+    context.initial(connection, whole, out)
+}
+
 pub fn open_5gs(
     context: Context,
     direction: Direction,
     connection: Connection,
     message: &[u8],
     out: &mut [u8],
+    out2: &mut [u8],
 ) -> OpenDone
-    ensures { λ r. ⌜ outcome openValues (leaves (r .answer) (r .context) (now (out .exit))) ≡ gives (open5gs direction connection (now (message .entry)) (now (out .entry))) context ⌝ }
+    ensures first { λ r. ⌜ outcome openValues (leaves (r .answer) (r .context) (now (out .exit))) ≡ gives (open5gs direction connection (now (message .entry)) (now (out .entry)) (now (out2 .entry))) context ⌝ }
+    ensures second { λ r. ⌜ now (out2 .exit) ≡ second (open5gs direction connection (now (message .entry)) (now (out .entry)) (now (out2 .entry))) context ⌝ }
 {
-    context.open(direction, connection, message, out)
+    context.open(direction, connection, message, out, out2)
 }
 
 pub fn seal_eps(context: Context, inner: &[u8], out: &mut [u8]) -> UseDone

@@ -1,3 +1,4 @@
 pub mod Envelope
 pub mod Eps
 pub mod Containers
+pub mod Initial

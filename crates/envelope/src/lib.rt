@@ -1,14 +1,27 @@
-// 5GS and EPS messages and the S1-to-N1 container as octets, made and read with a context's keys.
+// 5GS and EPS messages, initial messages with their container, and the S1-to-N1 container as octets, made and read with a context's keys.
 ghost use mathlib.Core.Path.{_≡_};
+ghost use mathlib.Core.List.{_∷_};
 ghost use Prim.Native.Nat.{_+_, _-_, _≤_};
 ghost use lib.ListN.{length, drop};
 ghost use Rattle.look.specs.Look.{lookOf};
-ghost use Rattle.nas_core.specs.Keyed.{payload};
+ghost use Rattle.nas_core.specs.Keyed.{payload, protected};
 ghost use Rattle.nas_core.specs.Verify.{fits};
 ghost use Rattle.envelope.specs.Envelope.{wrongType, ciphers, envelope, over};
 ghost use Rattle.envelope.specs.Eps.{notEps, epsMessage};
 ghost use Rattle.envelope.specs.Containers.{s1ToN1, s1Count, containerBearer, containerDirection, otherAlgorithms};
+
+mod hidden;
+mod outgoing;
+
+pub use hidden::read_beside;
 use nas_core::Core;
+pub use outgoing::put_initial;
+
+// 18, or how many octets the container's message has: none where there is no container.
+pub enum Inside {
+    Refused,
+    Handed(usize),
+}
 
 // In front of the payload: 7E, header type, code and last octet of COUNT (5GS), or 17, code and last octet (EPS).
 pub const HEADER: usize = 7;
@@ -52,7 +65,17 @@ fn is_ciphering(header_type: u8) -> bool
     header_type == 4
 }
 
-// A 5GS message to the front of the output: the payload behind its seven header octets, then these.
+// The payload stands behind seven octets: the header is written there.
+fn wrap(core: Core, header_type: u8, count: u32, bearer: u8, direction: u8, message: &mut [u8])
+    requires { ⌜ 7 ≤ length (now message) ⌝ }
+    ensures { λ r. ⌜ now (message .exit) ≡ 0x7E ∷ «header_type» ∷ protected core count bearer direction (drop 7 (now (message .entry))) ⌝ }
+{
+    core.protect(count, bearer, direction, &mut message[CODE..]);
+    message[0] = 0x7e;
+    message[1] = header_type;
+}
+
+// A 5GS message to the front of the output.
 pub fn put(
     core: Core,
     header_type: u8,
@@ -65,12 +88,17 @@ pub fn put(
     requires { ⌜ 7 + length (now inner) ≤ length (now out) ⌝ }
     ensures { λ r. ⌜ now (out .exit) ≡ over (envelope core «header_type» count bearer direction (now (inner .entry))) (now (out .entry)) ⌝ }
 {
-    let end = 7 + inner.len();
+    let end = HEADER + inner.len();
     let ciphered = is_ciphering(header_type);
-    core.fill(ciphered, count, bearer, direction, inner, &mut out[7..end]);
-    core.protect(count, bearer, direction, &mut out[CODE..end]);
-    out[0] = 0x7e;
-    out[1] = header_type;
+    core.fill(
+        ciphered,
+        count,
+        bearer,
+        direction,
+        inner,
+        &mut out[HEADER..end],
+    );
+    wrap(core, header_type, count, bearer, direction, &mut out[..end]);
 }
 
 // The plaintext of a 5GS message to the front of the output, and what the look says of it.

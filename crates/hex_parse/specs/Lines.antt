@@ -10,7 +10,7 @@ use Rattle.hex_lines.specs.declared.Decoded.the-variants as decoded
 use Rattle.hex_parse.specs.Form.{slot, digits, direction, connection, key, isRow, hasHead, from, word, keyWord}
 use Rattle.hex_parse.specs.Names as name
 use Rattle.hex_parse.specs.declared.Call.{Call}
-use Rattle.hex_parse.specs.declared.Call.the-variants.{Bad, New, Restore, Reselect, Window, Seal, Opaque, Open, EpsSeal, EpsOpen, N1ToS1, VerifyN1ToS1, S1ToN1, VerifyS1ToN1, Raw, Show}
+use Rattle.hex_parse.specs.declared.Call.the-variants.{Bad, New, Restore, Reselect, Window, Seal, Opaque, Initial, Open, EpsSeal, EpsOpen, N1ToS1, VerifyN1ToS1, S1ToN1, VerifyS1ToN1, Raw, Show}
 use Rattle.hex_parse.specs.declared.Line.{Line}
 
 -- new S II CC IK CK, and reselect so
@@ -29,9 +29,17 @@ windowForm = name.window ∷ slot ∷ digits 2 ∷ []
 abbrev pub sealing : List ℕ → List (List ℕ)
 sealing name = name ∷ slot ∷ digits 2 ∷ direction ∷ connection ∷ digits 4 ∷ []
 
+-- initial S C LLLL OCTETS
+abbrev pub initialForm : List (List ℕ)
+initialForm = name.initial ∷ slot ∷ connection ∷ digits 4 ∷ []
+
 -- open S D C LLLL OCTETS
 abbrev pub openForm : List (List ℕ)
 openForm = name.open′ ∷ slot ∷ direction ∷ connection ∷ digits 4 ∷ []
+
+-- open2 S D C LLLL MMMM OCTETS
+abbrev pub open2Form : List (List ℕ)
+open2Form = name.open2 ∷ slot ∷ direction ∷ connection ∷ digits 4 ∷ digits 4 ∷ []
 
 -- epsseal S LLLL OCTETS, and epsopen so
 abbrev pub epsForm : List ℕ → List (List ℕ)
@@ -55,10 +63,11 @@ rawForm =
     name.raw ∷ slot ∷ digits 2 ∷ digits 2 ∷ key ∷ key ∷ digits 2
     ∷ digits 8 ∷ digits 16 ∷ digits 8 ∷ digits 16 ∷ digits 8 ∷ digits 16 ∷ digits 8 ∷ digits 16 ∷ []
 
--- a call on a slot, with keys, next COUNTs and window bits beside it; how much output is lent; where its octets begin, 0 for none
-abbrev pub lineWith : ℕ → Call → List ℕ → List ℕ → List ℕ → List ℕ → ℕ → ℕ → Line
-lineWith s call ik ck next bits n at =
-    record { slot = s; call = call; «integrity_key» = ik; «ciphering_key» = ck; next = next; bits = bits; room = n; from = at; octets = 0; long = false }
+-- a call on a slot, with keys, next COUNTs and window bits beside it; how much output and second output is lent; where its octets begin,
+-- 0 for none
+abbrev pub lineWith : ℕ → Call → List ℕ → List ℕ → List ℕ → List ℕ → ℕ → ℕ → ℕ → Line
+lineWith s call ik ck next bits n m at =
+    record { slot = s; call = call; «integrity_key» = ik; «ciphering_key» = ck; next = next; bits = bits; room = n; second = m; from = at; octets = 0; long = false }
 
 abbrev pub noKey : List ℕ
 noKey = replicate 16 0
@@ -66,8 +75,11 @@ noKey = replicate 16 0
 abbrev pub no4 : List ℕ
 no4 = replicate 4 0
 
+abbrev pub headedTwo : ℕ → Call → ℕ → ℕ → ℕ → Line
+headedTwo s call n m at = lineWith s call noKey noKey no4 no4 n m at
+
 abbrev pub headed : ℕ → Call → ℕ → ℕ → Line
-headed s call n at = lineWith s call noKey noKey no4 no4 n at
+headed s call n at = headedTwo s call n 0 at
 
 abbrev pub plain : ℕ → Call → Line
 plain s call = headed s call 0 0
@@ -78,7 +90,7 @@ bad = plain 0 Bad
 -- creation and reselection: codes and keys
 abbrev pub selected : List (List ℕ) → List ℕ → (ℕ → ℕ → Call) → Line
 selected form t call =
-    lineWith (word form t 1) (call (word form t 2) (word form t 3)) (keyWord form t 4) (keyWord form t 5) no4 no4 0 0
+    lineWith (word form t 1) (call (word form t 2) (word form t 3)) (keyWord form t 4) (keyWord form t 5) no4 no4 0 0 0
 
 unfoldable pub changeLine : List ℕ → Line → Line
 changeLine t other =
@@ -92,7 +104,7 @@ unfoldable pub restoreLine : List ℕ → Line
 restoreLine t =
     lineWith (word restoreForm t 1) (Restore (word restoreForm t 2) (word restoreForm t 3)) (keyWord restoreForm t 4) (keyWord restoreForm t 5)
     (word restoreForm t 6 ∷ word restoreForm t 7 ∷ word restoreForm t 8 ∷ word restoreForm t 9 ∷ [])
-    no4 0 0
+    no4 0 0 0
 
 -- with window bits too
 unfoldable pub rawLine : List ℕ → Line
@@ -100,7 +112,7 @@ rawLine t =
     lineWith (word rawForm t 1) (Raw (word rawForm t 2) (word rawForm t 3) (word rawForm t 6)) (keyWord rawForm t 4) (keyWord rawForm t 5)
     (word rawForm t 7 ∷ word rawForm t 9 ∷ word rawForm t 11 ∷ word rawForm t 13 ∷ [])
     (word rawForm t 8 ∷ word rawForm t 10 ∷ word rawForm t 12 ∷ word rawForm t 14 ∷ [])
-    0 0
+    0 0 0
 
 unfoldable pub stateLine : List ℕ → Line → Line
 stateLine t other =
@@ -119,14 +131,29 @@ sealed form t call = headed (word form t 1) (call (word form t 2) (word form t 3
 abbrev pub eps : List (List ℕ) → List ℕ → Call → Line
 eps form t call = headed (word form t 1) call (word form t 2) (afterHead form)
 
-unfoldable pub messageLine : List ℕ → Line → Line
-messageLine t other =
+unfoldable pub sealLine : List ℕ → Line → Line
+sealLine t other =
     cond (hasHead (sealing name.seal) t) (sealed (sealing name.seal) t Seal)
     (cond (hasHead (sealing name.opaque) t) (sealed (sealing name.opaque) t Opaque)
-    (cond (hasHead openForm t) (headed (word openForm t 1) (Open (word openForm t 2) (word openForm t 3)) (word openForm t 4) (afterHead openForm))
-    (cond (hasHead (epsForm name.epsseal) t) (eps (epsForm name.epsseal) t EpsSeal)
+    (cond (hasHead initialForm t) (headed (word initialForm t 1) (Initial (word initialForm t 2)) (word initialForm t 3) (afterHead initialForm))
+    other))
+
+-- `open` lends as much to its second output as to its first
+abbrev pub opened : List (List ℕ) → List ℕ → ℕ → Line
+opened form t second =
+    headedTwo (word form t 1) (Open (word form t 2) (word form t 3)) (word form t 4) second (afterHead form)
+
+unfoldable pub openLine : List ℕ → Line → Line
+openLine t other =
+    cond (hasHead openForm t) (opened openForm t (word openForm t 4))
+    (cond (hasHead open2Form t) (opened open2Form t (word open2Form t 5))
+    other)
+
+unfoldable pub epsLine : List ℕ → Line → Line
+epsLine t other =
+    cond (hasHead (epsForm name.epsseal) t) (eps (epsForm name.epsseal) t EpsSeal)
     (cond (hasHead (epsForm name.epsopen) t) (eps (epsForm name.epsopen) t EpsOpen)
-    other))))
+    other)
 
 unfoldable pub containerLine : List ℕ → Line → Line
 containerLine t other =
@@ -138,16 +165,19 @@ containerLine t other =
     other)))
 
 -- the line up to its octets
+abbrev pub restOf : List ℕ → Line
+restOf t = changeLine t (containerLine t (stateLine t bad))
+
 unfoldable pub headOf : List ℕ → Line
-headOf t = messageLine t (changeLine t (containerLine t (stateLine t bad)))
+headOf t = sealLine t (openLine t (epsLine t (restOf t)))
 
 -- the octets at the end: `-` for none, else an even run of digits that is not empty, held or more than there is room for
 abbrev pub counted : Line → Decoded → Line
 counted l decoded.Bad = bad
 counted l decoded.Long =
-    record { slot = l .slot; call = l .call; «integrity_key» = l .«integrity_key»; «ciphering_key» = l .«ciphering_key»; next = l .next; bits = l .bits; room = l .room; from = l .from; octets = 0; long = true }
+    record { slot = l .slot; call = l .call; «integrity_key» = l .«integrity_key»; «ciphering_key» = l .«ciphering_key»; next = l .next; bits = l .bits; room = l .room; second = l .second; from = l .from; octets = 0; long = true }
 counted l (decoded.Octets n) =
-    record { slot = l .slot; call = l .call; «integrity_key» = l .«integrity_key»; «ciphering_key» = l .«ciphering_key»; next = l .next; bits = l .bits; room = l .room; from = l .from; octets = n; long = false }
+    record { slot = l .slot; call = l .call; «integrity_key» = l .«integrity_key»; «ciphering_key» = l .«ciphering_key»; next = l .next; bits = l .bits; room = l .room; second = l .second; from = l .from; octets = n; long = false }
 
 -- `-` is 45
 unfoldable pub isNone : List ℕ → Bool

@@ -30,6 +30,14 @@ opaque = 111 ∷ 112 ∷ 97 ∷ 113 ∷ 117 ∷ 101 ∷ []
 abbrev pub open′ : List ℕ
 open′ = 111 ∷ 112 ∷ 101 ∷ 110 ∷ []
 
+-- open2
+abbrev pub open2 : List ℕ
+open2 = 111 ∷ 112 ∷ 101 ∷ 110 ∷ 50 ∷ []
+
+-- initial
+abbrev pub initial : List ℕ
+initial = 105 ∷ 110 ∷ 105 ∷ 116 ∷ 105 ∷ 97 ∷ 108 ∷ []
+
 -- epsseal
 abbrev pub epsseal : List ℕ
 epsseal = 101 ∷ 112 ∷ 115 ∷ 115 ∷ 101 ∷ 97 ∷ 108 ∷ []

@@ -1,6 +1,6 @@
 // The forms, and what each line is up to its octets: X is any digit, S a slot, D a direction, C a connection.
 ghost use mathlib.Core.Path.{_≡_};
-ghost use Rattle.hex_parse.specs.Lines.{no4, lineWith, headed, plain, bad, restoreLine, rawLine, changeLine, messageLine, containerLine, stateLine, headOf};
+ghost use Rattle.hex_parse.specs.Lines.{no4, lineWith, headedTwo, headed, plain, bad, restoreLine, rawLine, changeLine, openLine, epsLine, containerLine, stateLine, restOf, headOf};
 use crate::Call;
 use crate::Line;
 use crate::form;
@@ -13,9 +13,10 @@ fn line_with(
     next: [u32; 4],
     bits: [u64; 4],
     room: usize,
+    second: usize,
     from: usize,
 ) -> Line
-    ensures { λ r. ⌜ r ≡ lineWith slot call «integrity_key» «ciphering_key» next bits room from ⌝ }
+    ensures { λ r. ⌜ r ≡ lineWith slot call «integrity_key» «ciphering_key» next bits room second from ⌝ }
 {
     Line {
         slot,
@@ -25,16 +26,33 @@ fn line_with(
         next,
         bits,
         room,
+        second,
         from,
         octets: 0,
         long: false,
     }
 }
 
+fn headed_two(slot: usize, call: Call, room: usize, second: usize, from: usize) -> Line
+    ensures { λ r. ⌜ r ≡ headedTwo slot call room second from ⌝ }
+{
+    line_with(
+        slot,
+        call,
+        [0; 16],
+        [0; 16],
+        [0; 4],
+        [0; 4],
+        room,
+        second,
+        from,
+    )
+}
+
 fn headed(slot: usize, call: Call, room: usize, from: usize) -> Line
     ensures { λ r. ⌜ r ≡ headed slot call room from ⌝ }
 {
-    line_with(slot, call, [0; 16], [0; 16], [0; 4], [0; 4], room, from)
+    headed_two(slot, call, room, 0, from)
 }
 
 fn plain(slot: usize, call: Call) -> Line
@@ -44,7 +62,7 @@ fn plain(slot: usize, call: Call) -> Line
 }
 
 fn keyed(slot: usize, call: Call, integrity_key: [u8; 16], ciphering_key: [u8; 16]) -> Line
-    ensures { λ r. ⌜ r ≡ lineWith slot call «integrity_key» «ciphering_key» no4 no4 0 0 ⌝ }
+    ensures { λ r. ⌜ r ≡ lineWith slot call «integrity_key» «ciphering_key» no4 no4 0 0 0 ⌝ }
 {
     line_with(
         slot,
@@ -53,6 +71,7 @@ fn keyed(slot: usize, call: Call, integrity_key: [u8; 16], ciphering_key: [u8; 1
         ciphering_key,
         [0; 4],
         [0; 4],
+        0,
         0,
         0,
     )
@@ -66,7 +85,7 @@ pub fn bad() -> Line
 
 // Creation, reselection, window size.
 fn change(text: &[u8]) -> Line
-    ensures { λ r. ⌜ r ≡ changeLine (now (text .entry)) (containerLine (now (text .entry)) (stateLine (now (text .entry)) bad)) ⌝ }
+    ensures { λ r. ⌜ r ≡ restOf (now (text .entry)) ⌝ }
 {
     if form::fits(
         b"new S XX XX XXXXXXXXXXXXXXXXXXXXXXXXXXXXXXXX XXXXXXXXXXXXXXXXXXXXXXXXXXXXXXXX",
@@ -174,6 +193,7 @@ fn restore(text: &[u8]) -> Line
         [0; 4],
         0,
         0,
+        0,
     )
 }
 
@@ -206,7 +226,49 @@ fn raw(text: &[u8]) -> Line
         bits,
         0,
         0,
+        0,
     )
+}
+
+// EPS messages.
+fn eps(text: &[u8]) -> Line
+    ensures { λ r. ⌜ r ≡ epsLine (now (text .entry)) (restOf (now (text .entry))) ⌝ }
+{
+    if form::begins(b"epsseal S XXXX ", text) {
+        return headed(form::slot(text, 8), Call::EpsSeal, form::room(text, 10), 15);
+    }
+    if form::begins(b"epsopen S XXXX ", text) {
+        return headed(form::slot(text, 8), Call::EpsOpen, form::room(text, 10), 15);
+    }
+    change(text)
+}
+
+// Opening, with two outputs of one length or of any two.
+fn opening(text: &[u8]) -> Line
+    ensures { λ r. ⌜ r ≡ openLine (now (text .entry)) (epsLine (now (text .entry)) (restOf (now (text .entry)))) ⌝ }
+{
+    if form::begins(b"open S D C XXXX ", text) {
+        let call = Call::Open {
+            direction: form::digit(text, 7),
+            connection: form::digit(text, 9),
+        };
+        let room = form::room(text, 11);
+        return headed_two(form::slot(text, 5), call, room, room, 16);
+    }
+    if form::begins(b"open2 S D C XXXX XXXX ", text) {
+        let call = Call::Open {
+            direction: form::digit(text, 8),
+            connection: form::digit(text, 10),
+        };
+        return headed_two(
+            form::slot(text, 6),
+            call,
+            form::room(text, 12),
+            form::room(text, 17),
+            22,
+        );
+    }
+    eps(text)
 }
 
 // A line up to its octets. The messages come first: they are the most.
@@ -229,18 +291,9 @@ pub fn head(text: &[u8]) -> Line
         };
         return headed(form::slot(text, 7), call, form::room(text, 16), 21);
     }
-    if form::begins(b"open S D C XXXX ", text) {
-        let call = Call::Open {
-            direction: form::digit(text, 7),
-            connection: form::digit(text, 9),
-        };
-        return headed(form::slot(text, 5), call, form::room(text, 11), 16);
+    if form::begins(b"initial S C XXXX ", text) {
+        let call = Call::Initial(form::digit(text, 10));
+        return headed(form::slot(text, 8), call, form::room(text, 12), 17);
     }
-    if form::begins(b"epsseal S XXXX ", text) {
-        return headed(form::slot(text, 8), Call::EpsSeal, form::room(text, 10), 15);
-    }
-    if form::begins(b"epsopen S XXXX ", text) {
-        return headed(form::slot(text, 8), Call::EpsOpen, form::room(text, 10), 15);
-    }
-    change(text)
+    opening(text)
 }

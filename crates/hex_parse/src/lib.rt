@@ -35,6 +35,7 @@ pub enum Call {
         direction: u8,
         connection: u8,
     },
+    Initial(u8),
     Open {
         direction: u8,
         connection: u8,
@@ -65,6 +66,8 @@ pub struct Line {
     pub bits: [u64; 4],
     // how many octets of output are lent
     pub room: usize,
+    // how many octets of second output are lent
+    pub second: usize,
     // where the octets begin in the text, 0 for a line without
     pub from: usize,
     // how many octets stand at the front of what was lent for them

@@ -6,23 +6,28 @@ use mathlib.Core.List.{List, append-nil}
 use native.Mathlib.Omega.{arith}
 use lib.ListN.{length, replicate, length-replicate, getD-replicate, drop-of-length-le, set}
 use lib.Seq.{take-all, paste}
-use Rattle.nas_5gs.specs.Leaves.{Leaves, leaves}
+use Rattle.nas_5gs.specs.Leaves.{Leaves, leaves, LeavesTwo, leavesTwo}
 use Rattle.nas_5gs.specs.declared.Context.{Context}
 use Rattle.hex_lines.proofs.Laws as hex
 use Rattle.hex_perform.specs.declared.Answer.{Answer}
 use Rattle.hex_parse.specs.declared.Line.{Line}
 use Rattle.hex_perform.specs.declared.Answer.the-variants.{Refused}
-use Rattle.hex_perform.specs.Answers.{writing}
+use Rattle.hex_perform.specs.Answers.{writing, writingTwo}
 use Rattle.hex_perform.specs.Perform.{callOf, performOf}
 
 pub answered : {A : Type 0} (f : A → Answer) (a : A) (r : Answer) (x y : Context) (o : List ℕ) (l : Leaves A)
     → r ≡ f a → y ≡ x → leaves a x o ≡ l → leaves r y o ≡ writing f l
 answered f a r x y o l p q e = rw (p, q) (ap (writing f) e)
 
-pub held : (l : Line) (x : Context) (o out : List ℕ) (left : Leaves Answer) → l .long ≡ false
-    → left ≡ callOf (l .call) l x o out → left ≡ performOf l x o out
+pub answered-two : {A : Type 0} (f : A → Answer) (a : A) (r : Answer) (x : Context) (o s : List ℕ) (l : LeavesTwo A)
+    → r ≡ f a → leavesTwo a x o s ≡ l → leavesTwo r x o s ≡ writingTwo f l
+answered-two f a r x o s l p e = rw p (ap (writingTwo f) e)
+
+pub held : (l : Line) (x : Context) (o out second : List ℕ) (left : LeavesTwo Answer) → l .long ≡ false
+    → left ≡ callOf (l .call) l x o out second → left ≡ performOf l x o out second
 unfolding performOf
-held l x o out left h e = e ∙ sym (ap (λ (b : Bool). cond b (leaves (Refused 4) x out) (callOf (l .call) l x o out)) h)
+held l x o out second left h e =
+    e ∙ sym (ap (λ (b : Bool). cond b (leavesTwo (Refused 4) x out second) (callOf (l .call) l x o out second)) h)
 
 module _ (d out : List ℕ) (i : ℕ) (so-far : out ≡ paste d 0 (replicate (length d) 165) i) where
   same-length : length (replicate {A = ℕ} (length d) 165) ≡ length d

@@ -1,7 +1,7 @@
 -- The answers of the library's calls as one value.
 use Prim.Native.Nat.{ℕ}
 use mathlib.Core.List.{List}
-use Rattle.nas_5gs.specs.Leaves.{Leaves, leaves}
+use Rattle.nas_5gs.specs.Leaves.{Leaves, leaves, LeavesTwo, leavesTwo}
 use Rattle.nas_5gs.specs.declared.ChangeAnswer.{ChangeAnswer}
 use Rattle.nas_5gs.specs.declared.ChangeAnswer.the-variants as change
 use Rattle.nas_5gs.specs.declared.UseAnswer.{UseAnswer}
@@ -31,7 +31,7 @@ octetAnswer (octet.Made c o) = Made c o
 
 abbrev pub openAnswer : OpenAnswer → Answer
 openAnswer (open′.Refused n) = Refused n
-openAnswer (open′.Accepted c d w t) = Opened c d w t
+openAnswer (open′.Accepted c d w t s) = Opened c d w t s
 openAnswer (open′.Content c d w t n) = Content c d w t n
 
 abbrev pub epsAnswer : EpsOpenAnswer → Answer
@@ -43,9 +43,16 @@ abbrev pub verifyAnswer : VerifyAnswer → Answer
 verifyAnswer (verify.Refused n) = Refused n
 verifyAnswer (verify.Verified c d) = Received c d 0
 
--- what a call leaves, with its answer as that value: it writes to the lent output, or it is lent none and `out` stays
+-- what a call leaves, with its answer as that value
 abbrev pub writing : {A : Type 0} → (A → Answer) → Leaves A → Leaves Answer
 writing f (leaves a x o) = leaves (f a) x o
 
-abbrev pub keeping : {A : Type 0} → List ℕ → Leaves A → Leaves A
-keeping out (leaves a x o) = leaves a x out
+abbrev pub writingTwo : {A : Type 0} → (A → Answer) → LeavesTwo A → LeavesTwo Answer
+writingTwo f (leavesTwo a x o s) = leavesTwo (f a) x o s
+
+-- beside it what it is not lent stays: the second output, or both
+abbrev pub beside : {A : Type 0} → List ℕ → Leaves A → LeavesTwo A
+beside second (leaves a x o) = leavesTwo a x o second
+
+abbrev pub keeping : {A : Type 0} → List ℕ → List ℕ → Leaves A → LeavesTwo A
+keeping out second (leaves a x o) = leavesTwo a x out second

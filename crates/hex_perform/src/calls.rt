@@ -1,13 +1,14 @@
 // The calls, each by the function of nas_5gs that it is.
 ghost use mathlib.Core.Path.{_≡_};
 ghost use mathlib.Core.List.{[]};
-ghost use Rattle.nas_5gs.specs.Leaves.{leaves};
+ghost use Rattle.nas_5gs.specs.Leaves.{leaves, leavesTwo};
 ghost use Rattle.nas_5gs.specs.Changes.{newOf, restoreOf, reselectOf, windowOf};
 ghost use Rattle.nas_5gs.specs.Seal.{sealOf, sealOpaqueOf};
+ghost use Rattle.nas_5gs.specs.Initial.{initialOf};
 ghost use Rattle.nas_5gs.specs.Open.{openOf};
 ghost use Rattle.nas_5gs.specs.Eps.{sealEpsOf, openEpsOf};
 ghost use Rattle.nas_5gs.specs.Containers.{n1ToS1Of, verifyN1ToS1Of, s1ToN1Of, verifyS1ToN1Of};
-ghost use Rattle.hex_perform.specs.Answers.{changeAnswer, useAnswer, octetAnswer, openAnswer, epsAnswer, verifyAnswer, writing};
+ghost use Rattle.hex_perform.specs.Answers.{changeAnswer, useAnswer, octetAnswer, openAnswer, epsAnswer, verifyAnswer, writing, writingTwo};
 ghost use Rattle.hex_perform.specs.Perform.{directionOf, connectionOf, rawContext, callOf};
 use crate::Answer;
 use crate::Done;
@@ -116,12 +117,26 @@ fn opaque(
     used(context.seal_opaque(header, d, k, inner, out))
 }
 
-fn open(context: Context, direction: u8, connection: u8, message: &[u8], out: &mut [u8]) -> Done
-    ensures { λ r. ⌜ leaves (r .answer) (r .context) (now (out .exit)) ≡ writing openAnswer (openOf context (directionOf direction) (connectionOf connection) (now (message .entry)) (now (out .entry))) ⌝ }
+fn initial(context: Context, connection: u8, whole: &[u8], out: &mut [u8]) -> Done
+    ensures { λ r. ⌜ leaves (r .answer) (r .context) (now (out .exit)) ≡ writing useAnswer (initialOf context (connectionOf connection) (now (whole .entry)) (now (out .entry))) ⌝ }
+{
+    let k = connection_of(connection);
+    used(context.initial(k, whole, out))
+}
+
+fn open(
+    context: Context,
+    direction: u8,
+    connection: u8,
+    message: &[u8],
+    out: &mut [u8],
+    second: &mut [u8],
+) -> Done
+    ensures { λ r. ⌜ leavesTwo (r .answer) (r .context) (now (out .exit)) (now (second .exit)) ≡ writingTwo openAnswer (openOf context (directionOf direction) (connectionOf connection) (now (message .entry)) (now (out .entry)) (now (second .entry))) ⌝ }
 {
     let d = direction_of(direction);
     let k = connection_of(connection);
-    let done = context.open(d, k, message, out);
+    let done = context.open(d, k, message, out, second);
     let answer = done.answer;
     let after = done.context;
     Done {
@@ -227,8 +242,8 @@ fn raw(
     }
 }
 
-pub fn call(line: Line, context: Context, octets: &[u8], out: &mut [u8]) -> Done
-    ensures { λ r. ⌜ leaves (r .answer) (r .context) (now (out .exit)) ≡ callOf (line .call) line context (now (octets .entry)) (now (out .entry)) ⌝ }
+pub fn call(line: Line, context: Context, octets: &[u8], out: &mut [u8], second: &mut [u8]) -> Done
+    ensures { λ r. ⌜ leavesTwo (r .answer) (r .context) (now (out .exit)) (now (second .exit)) ≡ callOf (line .call) line context (now (octets .entry)) (now (out .entry)) (now (second .entry)) ⌝ }
 {
     let call = line.call;
     let ik = line.integrity_key;
@@ -263,10 +278,11 @@ pub fn call(line: Line, context: Context, octets: &[u8], out: &mut [u8]) -> Done
             direction,
             connection,
         } => opaque(context, header, direction, connection, octets, out),
+        Call::Initial(connection) => initial(context, connection, octets, out),
         Call::Open {
             direction,
             connection,
-        } => open(context, direction, connection, octets, out),
+        } => open(context, direction, connection, octets, out, second),
         Call::EpsSeal => eps_seal(context, octets, out),
         Call::EpsOpen => eps_open(context, octets, out),
         Call::N1ToS1 => n1_to_s1(context),

@@ -1,7 +1,7 @@
 // A call performed on a context: which function of nas_5gs is called with which numbers, and its answer as one value.
 ghost use mathlib.Core.Path.{_≡_};
 ghost use lib.ListN.{length, replicate};
-ghost use Rattle.nas_5gs.specs.Leaves.{leaves};
+ghost use Rattle.nas_5gs.specs.Leaves.{leavesTwo};
 ghost use Rattle.hex_perform.specs.Answers.{changeAnswer, useAnswer, octetAnswer, openAnswer, epsAnswer, verifyAnswer};
 ghost use Rattle.hex_perform.specs.Perform.{performOf};
 
@@ -35,6 +35,7 @@ pub enum Answer {
         distance: u32,
         wrote: usize,
         header: u8,
+        second: usize,
     },
     Content {
         count: u32,
@@ -98,11 +99,13 @@ fn open_answer(answer: OpenAnswer) -> Answer
             distance,
             wrote,
             header_type,
+            second,
         } => Answer::Opened {
             count,
             distance,
             wrote,
             header: header_type,
+            second,
         },
         OpenAnswer::Content {
             count,
@@ -174,9 +177,15 @@ pub fn fill(out: &mut [u8])
     }
 }
 
-// The call of a line on a context. `octets` are the line's, `out` is the output that is lent.
-pub fn perform(line: Line, context: Context, octets: &[u8], out: &mut [u8]) -> Done
-    ensures { λ r. ⌜ leaves (r .answer) (r .context) (now (out .exit)) ≡ performOf line context (now (octets .entry)) (now (out .entry)) ⌝ }
+// The call of a line on a context. `octets` are the line's, `out` and `second` are the outputs that are lent.
+pub fn perform(
+    line: Line,
+    context: Context,
+    octets: &[u8],
+    out: &mut [u8],
+    second: &mut [u8],
+) -> Done
+    ensures { λ r. ⌜ leavesTwo (r .answer) (r .context) (now (out .exit)) (now (second .exit)) ≡ performOf line context (now (octets .entry)) (now (out .entry)) (now (second .entry)) ⌝ }
 {
     if line.long {
         return Done {
@@ -184,5 +193,5 @@ pub fn perform(line: Line, context: Context, octets: &[u8], out: &mut [u8]) -> D
             context,
         };
     }
-    calls::call(line, context, octets, out)
+    calls::call(line, context, octets, out, second)
 }

@@ -12,7 +12,7 @@ use lib.Seq.{paste, take-paste, take-all, drop-cons}
 use Rattle.hex_lines.specs.Hex.{textOf, decimalOf, bigEndian}
 use Rattle.hex_lines.proofs.Laws as hex
 use Rattle.hex_print.specs.Words.{Puts, octetsWord}
-use Rattle.hex_print.specs.Lines.{wroteOf, answerText, isKept, tailText, contextText, lineText}
+use Rattle.hex_print.specs.Lines.{wroteOf, secondOf, answerText, secondText, isKept, endText, lineText}
 use Rattle.hex_perform.specs.declared.Answer.{Answer}
 use Rattle.nas_5gs.specs.declared.Context.{Context}
 
@@ -65,11 +65,14 @@ module _ (rest : List ℕ) (i : ℕ) where
   unfolding isKept
   end h e = sym (ap isKept (drop-of-length-le rest {i = i} h)) ∙ e
 
-pub lined : {l m : List ℕ} {at r : ℕ} (a : Answer) (x : Context) (out f t : List ℕ) (changed : Bool) (n : ℕ) → n ≡ wroteOf a
-    → f ≡ take n out → t ≡ drop n out → Puts l at (answerText a x f ++ tailText t ++ contextText changed ++ (10 ∷ [])) m r
-    → Puts l at (lineText a x out changed) m r
-unfolding lineText
-lined a x out f t changed n e p q h =
-    let front : f ≡ take (wroteOf a) out = p ∙ ap (λ (k : ℕ). take k out) e in
-    let rest : t ≡ drop (wroteOf a) out = q ∙ ap (λ (k : ℕ). drop k out) e in
-    rw (← front, ← rest) h
+module _ {l m : List ℕ} {at r : ℕ} (a : Answer) (x : Context) (out second : List ℕ) (changed : Bool) where
+  pub lined : (f g t u : List ℕ) (n k : ℕ) → n ≡ wroteOf a → k ≡ secondOf a → f ≡ take n out → g ≡ take k second → t ≡ drop n out → u ≡ drop k second
+      → Puts l at (answerText a x f ++ secondText a g ++ endText t u changed) m r
+      → Puts l at (lineText a x out second changed) m r
+  unfolding lineText
+  lined f g t u n k e d p q s v h =
+      let front : f ≡ take (wroteOf a) out = p ∙ ap (λ (i : ℕ). take i out) e in
+      let beside : g ≡ take (secondOf a) second = q ∙ ap (λ (i : ℕ). take i second) d in
+      let rest : t ≡ drop (wroteOf a) out = s ∙ ap (λ (i : ℕ). drop i out) e in
+      let behind-it : u ≡ drop (secondOf a) second = v ∙ ap (λ (i : ℕ). drop i second) d in
+      rw (← front, ← beside, ← rest, ← behind-it) h

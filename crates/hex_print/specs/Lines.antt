@@ -13,7 +13,7 @@ use Rattle.hex_perform.specs.declared.Answer.{Answer}
 use Rattle.hex_perform.specs.declared.Answer.the-variants.{Bad, Done, Shown, Refused, Used, Made, Opened, Content, EpsContent, Received}
 use Rattle.hex_print.specs.Words.{ok, no, bad, word, decimalWord, octetsWord}
 
--- how many octets were written
+-- how many octets were written in the output
 abbrev pub wroteOf : Answer → ℕ
 wroteOf Bad = 0
 wroteOf Done = 0
@@ -21,10 +21,23 @@ wroteOf Shown = 0
 wroteOf (Refused n) = 0
 wroteOf (Used c w) = w
 wroteOf (Made c o) = 0
-wroteOf (Opened c d w t) = w
+wroteOf (Opened c d w t s) = w
 wroteOf (Content c d w t n) = w
 wroteOf (EpsContent c d w n) = w
 wroteOf (Received c d w) = w
+
+-- how many in the second output
+abbrev pub secondOf : Answer → ℕ
+secondOf Bad = 0
+secondOf Done = 0
+secondOf Shown = 0
+secondOf (Refused n) = 0
+secondOf (Used c w) = 0
+secondOf (Made c o) = 0
+secondOf (Opened c d w t s) = s
+secondOf (Content c d w t n) = 0
+secondOf (EpsContent c d w n) = 0
+secondOf (Received c d w) = 0
 
 -- COUNT WROTE
 unfoldable pub usedText : ℕ → ℕ → List ℕ
@@ -52,7 +65,7 @@ unfoldable pub shownText : Context → List ℕ
 shownText x =
     coreText (x .core) ++ recordText (recordAt x 0) ++ recordText (recordAt x 1) ++ recordText (recordAt x 2) ++ recordText (recordAt x 3)
 
--- an answer, with the context for `show` and the octets that were written
+-- an answer, with the context for `show` and the octets that were written in the output
 unfoldable pub answerText : Answer → Context → List ℕ → List ℕ
 answerText Bad x o = bad
 answerText Done x o = ok
@@ -60,24 +73,42 @@ answerText Shown x o = shownText x
 answerText (Refused n) x o = no ++ decimalWord n
 answerText (Used c w) x o = ok ++ usedText c w ++ octetsWord o
 answerText (Made c k) x o = ok ++ usedText c 0 ++ word 1 k ++ octetsWord []
-answerText (Opened c d w t) x o = ok ++ receivedText c d w ++ word 1 t ++ octetsWord o
+answerText (Opened c d w t s) x o = ok ++ receivedText c d w ++ word 1 t ++ octetsWord o
 answerText (Content c d w t n) x o = contentText c d w ++ word 1 t ++ decimalWord n ++ octetsWord o
 answerText (EpsContent c d w n) x o = contentText c d w ++ decimalWord n ++ octetsWord o
 answerText (Received c d w) x o = ok ++ receivedText c d w ++ octetsWord o
 
--- ` !tail` if an octet after those written is no longer a5
+-- WROTE2 OCTETS2 behind the answers of `open`
+unfoldable pub secondText : Answer → List ℕ → List ℕ
+secondText Bad o = []
+secondText Done o = []
+secondText Shown o = []
+secondText (Refused n) o = []
+secondText (Used c w) o = []
+secondText (Made c k) o = []
+secondText (Opened c d w t s) o = word 2 s ++ octetsWord o
+secondText (Content c d w t n) o = word 2 0 ++ octetsWord o
+secondText (EpsContent c d w n) o = []
+secondText (Received c d w) o = []
+
+-- ` !tail` if an octet after those written in either output is no longer a5
 unfoldable pub isKept : List ℕ → Bool
 isKept [] = true
 isKept (b ∷ bs) = eqb b 0xa5 && isKept bs
 
-unfoldable pub tailText : List ℕ → List ℕ
-tailText rest = cond (isKept rest) [] (32 ∷ 33 ∷ 116 ∷ 97 ∷ 105 ∷ 108 ∷ [])
+unfoldable pub tailText : List ℕ → List ℕ → List ℕ
+tailText rest second = cond (isKept rest && isKept second) [] (32 ∷ 33 ∷ 116 ∷ 97 ∷ 105 ∷ 108 ∷ [])
 
 -- ` !context`
 unfoldable pub contextText : Bool → List ℕ
 contextText changed = cond changed (32 ∷ 33 ∷ 99 ∷ 111 ∷ 110 ∷ 116 ∷ 101 ∷ 120 ∷ 116 ∷ []) []
 
--- the line, with its LF: out is what was lent, as the call left it
-unfoldable pub lineText : Answer → Context → List ℕ → Bool → List ℕ
-lineText a x out changed =
-    answerText a x (take (wroteOf a) out) ++ tailText (drop (wroteOf a) out) ++ contextText changed ++ (10 ∷ [])
+-- what stands behind the octets, with the LF
+unfoldable pub endText : List ℕ → List ℕ → Bool → List ℕ
+endText rest second changed = tailText rest second ++ contextText changed ++ (10 ∷ [])
+
+-- the line: out and second are what was lent, as the call left them
+unfoldable pub lineText : Answer → Context → List ℕ → List ℕ → Bool → List ℕ
+lineText a x out second changed =
+    answerText a x (take (wroteOf a) out) ++ secondText a (take (secondOf a) second)
+    ++ endText (drop (wroteOf a) out) (drop (secondOf a) second) changed

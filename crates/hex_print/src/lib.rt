@@ -1,10 +1,11 @@
 // The line of an answer. Each function puts its text behind what stands before a place, and answers the place after it.
 ghost use mathlib.Core.Path.{_≡_};
+ghost use mathlib.Core.Bool.{_&&_};
 ghost use mathlib.Core.List.{_++_};
 ghost use Prim.Native.Nat.{_+_, _*_, _≤_};
 ghost use lib.ListN.{length, take, drop};
-ghost use Rattle.hex_print.specs.Words.{Puts, decimalWord, ok, no};
-ghost use Rattle.hex_print.specs.Lines.{wroteOf, usedText, receivedText, contentText, answerText, isKept, tailText, contextText, lineText};
+ghost use Rattle.hex_print.specs.Words.{Puts, word, decimalWord, octetsWord, ok, no};
+ghost use Rattle.hex_print.specs.Lines.{wroteOf, secondOf, usedText, receivedText, contentText, answerText, secondText, isKept, tailText, contextText, endText, lineText};
 
 mod context;
 mod words;
@@ -12,7 +13,7 @@ mod words;
 use hex_perform::Answer;
 use nas_5gs::Context;
 
-// How many octets a call wrote.
+// How many octets a call wrote in its output.
 pub fn wrote(answer: Answer) -> usize
     ensures { λ r. ⌜ r ≡ wroteOf answer ⌝ }
 {
@@ -28,6 +29,7 @@ pub fn wrote(answer: Answer) -> usize
             distance: _,
             wrote,
             header: _,
+            second: _,
         } => wrote,
         Answer::Content {
             count: _,
@@ -47,6 +49,45 @@ pub fn wrote(answer: Answer) -> usize
             distance: _,
             wrote,
         } => wrote,
+    }
+}
+
+// How many in the second output.
+pub fn second(answer: Answer) -> usize
+    ensures { λ r. ⌜ r ≡ secondOf answer ⌝ }
+{
+    match answer {
+        Answer::Bad => 0,
+        Answer::Done => 0,
+        Answer::Shown => 0,
+        Answer::Refused(_) => 0,
+        Answer::Used { count: _, wrote: _ } => 0,
+        Answer::Made { count: _, octet: _ } => 0,
+        Answer::Opened {
+            count: _,
+            distance: _,
+            wrote: _,
+            header: _,
+            second,
+        } => second,
+        Answer::Content {
+            count: _,
+            distance: _,
+            wrote: _,
+            header: _,
+            number: _,
+        } => 0,
+        Answer::EpsContent {
+            count: _,
+            distance: _,
+            wrote: _,
+            number: _,
+        } => 0,
+        Answer::Received {
+            count: _,
+            distance: _,
+            wrote: _,
+        } => 0,
     }
 }
 
@@ -101,7 +142,7 @@ fn content(count: u32, distance: u32, wrote: usize, out: &mut [u8], at: usize) -
     received(count, distance, wrote, out, next)
 }
 
-// An answer with the octets that were written, or the context for `show`.
+// An answer with the octets that were written in the output, or the context for `show`.
 pub fn answer_text(
     answer: Answer,
     context: Context,
@@ -131,6 +172,7 @@ pub fn answer_text(
             distance,
             wrote,
             header,
+            second: _,
         } => {
             let next = accepted(count, distance, wrote, out, at);
             let typed = words::word(header as u64, 1, out, next);
@@ -169,6 +211,54 @@ pub fn answer_text(
     }
 }
 
+fn put_second(wrote: usize, written: &[u8], out: &mut [u8], at: usize) -> usize
+    requires { ⌜ at + 64 + length (now written) * 2 ≤ length (now out) ⌝ }
+    ensures { λ r. ⌜ Puts (now (out .entry)) at (word 2 wrote ++ octetsWord (now (written .entry))) (now (out .exit)) r × (r ≤ at + 19 + length (now (written .entry)) * 2) ⌝ }
+{
+    let next = words::word(wrote as u64, 2, out, at);
+    words::octets(written, out, next)
+}
+
+// WROTE2 and OCTETS2, behind an answer of `open`.
+pub fn second_text(answer: Answer, written: &[u8], out: &mut [u8], at: usize) -> usize
+    requires { ⌜ at + 64 + length (now written) * 2 ≤ length (now out) ⌝ }
+    ensures { λ r. ⌜ Puts (now (out .entry)) at (secondText answer (now (written .entry))) (now (out .exit)) r × (r ≤ at + 19 + length (now (written .entry)) * 2) ⌝ }
+{
+    match answer {
+        Answer::Bad => at,
+        Answer::Done => at,
+        Answer::Shown => at,
+        Answer::Refused(_) => at,
+        Answer::Used { count: _, wrote: _ } => at,
+        Answer::Made { count: _, octet: _ } => at,
+        Answer::Opened {
+            count: _,
+            distance: _,
+            wrote: _,
+            header: _,
+            second,
+        } => put_second(second, written, out, at),
+        Answer::Content {
+            count: _,
+            distance: _,
+            wrote: _,
+            header: _,
+            number: _,
+        } => put_second(0, written, out, at),
+        Answer::EpsContent {
+            count: _,
+            distance: _,
+            wrote: _,
+            number: _,
+        } => at,
+        Answer::Received {
+            count: _,
+            distance: _,
+            wrote: _,
+        } => at,
+    }
+}
+
 fn is_kept(rest: &[u8]) -> bool
     ensures { λ r. ⌜ r ≡ isKept (now (rest .entry)) ⌝ }
 {
@@ -182,17 +272,26 @@ fn is_kept(rest: &[u8]) -> bool
     true
 }
 
-pub fn tail(rest: &[u8], out: &mut [u8], at: usize) -> usize
-    requires { ⌜ at + 6 ≤ length (now out) ⌝ }
-    ensures { λ r. ⌜ Puts (now (out .entry)) at (tailText (now (rest .entry))) (now (out .exit)) r × (r ≤ at + 6) ⌝ }
+fn are_kept(rest: &[u8], second: &[u8]) -> bool
+    ensures { λ r. ⌜ r ≡ (isKept (now (rest .entry)) && isKept (now (second .entry))) ⌝ }
 {
-    if is_kept(rest) {
+    if !is_kept(rest) {
+        return false;
+    }
+    is_kept(second)
+}
+
+fn tail(rest: &[u8], second: &[u8], out: &mut [u8], at: usize) -> usize
+    requires { ⌜ at + 6 ≤ length (now out) ⌝ }
+    ensures { λ r. ⌜ Puts (now (out .entry)) at (tailText (now (rest .entry)) (now (second .entry))) (now (out .exit)) r × (r ≤ at + 6) ⌝ }
+{
+    if are_kept(rest, second) {
         return at;
     }
     words::text(b" !tail", out, at)
 }
 
-pub fn context_mark(is_changed: bool, out: &mut [u8], at: usize) -> usize
+fn context_mark(is_changed: bool, out: &mut [u8], at: usize) -> usize
     requires { ⌜ at + 9 ≤ length (now out) ⌝ }
     ensures { λ r. ⌜ Puts (now (out .entry)) at (contextText «is_changed») (now (out .exit)) r × (r ≤ at + 9) ⌝ }
 {
@@ -202,21 +301,33 @@ pub fn context_mark(is_changed: bool, out: &mut [u8], at: usize) -> usize
     at
 }
 
-// The line of an answer. `lent` is the output that was lent to the call, `is_changed` says that its refusal changed the context.
+// What stands behind the octets of a line: what is left of the two outputs, and whether a refusal changed the context.
+pub fn put_end(rest: &[u8], second: &[u8], is_changed: bool, out: &mut [u8], at: usize) -> usize
+    requires { ⌜ at + 16 ≤ length (now out) ⌝ }
+    ensures { λ r. ⌜ Puts (now (out .entry)) at (endText (now (rest .entry)) (now (second .entry)) «is_changed») (now (out .exit)) r ⌝ }
+{
+    let tailed = tail(rest, second, out, at);
+    let marked = context_mark(is_changed, out, tailed);
+    words::text(b"\n", out, marked)
+}
+
+// The line of an answer. `lent` and `beside` are the outputs that were lent to the call.
 pub fn put_line(
     answer: Answer,
     context: Context,
     lent: &[u8],
+    beside: &[u8],
     is_changed: bool,
     out: &mut [u8],
     at: usize,
 ) -> usize
-    requires { ⌜ at + 1100 + length (now lent) * 2 ≤ length (now out) ⌝ }
-    ensures { λ r. ⌜ Puts (now (out .entry)) at (lineText answer context (now (lent .entry)) «is_changed») (now (out .exit)) r ⌝ }
+    requires { ⌜ at + 1200 + length (now lent) * 2 + length (now beside) * 2 ≤ length (now out) ⌝ }
+    ensures { λ r. ⌜ Puts (now (out .entry)) at (lineText answer context (now (lent .entry)) (now (beside .entry)) «is_changed») (now (out .exit)) r ⌝ }
 {
     let n = wrote(answer);
-    let next = answer_text(answer, context, hex_lines::front(lent, n), out, at);
-    let tailed = tail(hex_lines::after(lent, n), out, next);
-    let marked = context_mark(is_changed, out, tailed);
-    words::text(b"\n", out, marked)
+    let m = second(answer);
+    let told = answer_text(answer, context, hex_lines::front(lent, n), out, at);
+    let next = second_text(answer, hex_lines::front(beside, m), out, told);
+    let rest = hex_lines::after(lent, n);
+    put_end(rest, hex_lines::after(beside, m), is_changed, out, next)
 }

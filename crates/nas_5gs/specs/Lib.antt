@@ -3,6 +3,7 @@ pub mod Leaves
 pub mod Changes
 pub mod Envelope
 pub mod Seal
+pub mod Initial
 pub mod Open
 pub mod Eps
 pub mod Containers

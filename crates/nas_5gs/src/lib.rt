@@ -61,7 +61,7 @@ pub struct UseDone {
 }
 
 // A message opened: the distance says how many COUNTs a forward one skipped, or how far below the highest used a late one lies.
-// `Content` is refusal 8 and has the number that it carries.
+// `second` is how many octets of the container's message stand in the second output. `Content` is refusal 8 and has the number that it carries.
 pub enum OpenAnswer {
     Refused(u8),
     Accepted {
@@ -69,6 +69,7 @@ pub enum OpenAnswer {
         distance: u32,
         wrote: usize,
         header_type: u8,
+        second: usize,
     },
     Content {
         count: u32,

@@ -3,15 +3,59 @@ ghost use mathlib.Core.Path.{_≡_};
 ghost use Prim.Native.Nat.{_-_, _≤_, _<_};
 ghost use lib.ListN.{length, drop};
 ghost use Rattle.nas_core.specs.Keyed.{payload};
-ghost use Rattle.nas_5gs.specs.Leaves.{leaves};
+ghost use Rattle.initial.specs.Inside.{Hidden};
+ghost use Rattle.envelope.specs.Initial.{besideOf, beside, told};
+ghost use Rattle.nas_5gs.specs.Leaves.{leavesTwo};
 ghost use Rattle.nas_5gs.specs.Envelope.{ciphers};
-ghost use Rattle.nas_5gs.specs.Open.{openRefusal, handed, opened, openOf};
+ghost use Rattle.nas_5gs.specs.Open.{typeOf, openRefusal, roomFor, insideNumber, openAnswer, handed, opened, openOf};
 use crate::Connection;
 use crate::Context;
 use crate::Direction;
 use crate::OpenAnswer;
 use crate::OpenDone;
 use count::Opening;
+use envelope::Inside;
+
+// The room that a message may take: that of the shorter output where a second one is needed.
+fn room_for(direction: u8, message: &[u8], room: usize, second: usize) -> usize
+    ensures { λ r. ⌜ r ≡ roomFor (typeOf (now (message .entry))) direction room second ⌝ }
+{
+    if message.len() < 2 {
+        return room;
+    }
+    if message[1] % 16 != 1 {
+        return room;
+    }
+    if direction != 0 {
+        return room;
+    }
+    if room < second {
+        return room;
+    }
+    second
+}
+
+// The answer of a message that the look passes, by what is inside it.
+fn answered(count: u32, distance: u32, wrote: usize, header_type: u8, inside: Inside) -> OpenAnswer
+    ensures { λ r. ⌜ ((h : Hidden) → inside ≡ told h → r ≡ openAnswer count distance wrote «header_type» (insideNumber 0 h) (length (beside h))) ⌝ }
+{
+    match inside {
+        Inside::Refused => OpenAnswer::Content {
+            count,
+            distance,
+            wrote,
+            header_type,
+            number: 18,
+        },
+        Inside::Handed(second) => OpenAnswer::Accepted {
+            count,
+            distance,
+            wrote,
+            header_type,
+            second,
+        },
+    }
+}
 
 impl Context {
     fn open_refusal(self, message: &[u8], room: usize) -> u8
@@ -36,7 +80,7 @@ impl Context {
         nas_core::hand_refusal(envelope::HEADER, message.len(), room)
     }
 
-    // The code is verified and its COUNT used: the plaintext goes to the front of the output, and is looked at.
+    // The code is verified and its COUNT used: the plaintext goes to the front of the output and is looked at, and what is inside it to the second.
     fn hand(
         self,
         header_type: u8,
@@ -46,9 +90,10 @@ impl Context {
         direction: u8,
         message: &[u8],
         out: &mut [u8],
+        second: &mut [u8],
     ) -> OpenDone
-        requires { ⌜ (7 ≤ length (now message)) × (length (now message) - 7 ≤ length (now out)) ⌝ }
-        ensures { λ r. ⌜ leaves (r .answer) (r .context) (now (out .exit)) ≡ handed «header_type» direction (payload (self .core) (ciphers «header_type») count bearer direction (drop 7 (now (message .entry)))) (now (out .entry)) count distance self ⌝ }
+        requires { ⌜ (7 ≤ length (now message)) × (length (now message) - 7 ≤ length (now out)) × («header_type» ≡ 1 → direction ≡ 0 → length (now message) - 7 ≤ length (now second)) ⌝ }
+        ensures { λ r. ⌜ leavesTwo (r .answer) (r .context) (now (out .exit)) (now (second .exit)) ≡ handed «header_type» direction (payload (self .core) (ciphers «header_type») count bearer direction (drop 7 (now (message .entry)))) (besideOf (self .core) «header_type» count bearer direction (payload (self .core) (ciphers «header_type») count bearer direction (drop 7 (now (message .entry))))) (now (out .entry)) (now (second .entry)) count distance self ⌝ }
     {
         let wrote = message.len() - envelope::HEADER;
         let number = envelope::read(
@@ -60,27 +105,30 @@ impl Context {
             message,
             out,
         );
-        if number == 0 {
-            let answer = OpenAnswer::Accepted {
+        if number != 0 {
+            let answer = OpenAnswer::Content {
                 count,
                 distance,
                 wrote,
                 header_type,
+                number,
             };
             return OpenDone {
                 answer,
                 context: self,
             };
         }
-        let answer = OpenAnswer::Content {
-            count,
-            distance,
-            wrote,
+        let inside = envelope::read_beside(
+            self.core,
             header_type,
-            number,
-        };
+            count,
+            bearer,
+            direction,
+            &out[..wrote],
+            second,
+        );
         OpenDone {
-            answer,
+            answer: answered(count, distance, wrote, header_type, inside),
             context: self,
         }
     }
@@ -92,9 +140,10 @@ impl Context {
         direction: u8,
         message: &[u8],
         out: &mut [u8],
+        second: &mut [u8],
     ) -> OpenDone
-        requires { ⌜ (p < 4) × (self .core .size ≤ 64) × (7 ≤ length (now message)) × (length (now message) - 7 ≤ length (now out)) ⌝ }
-        ensures { λ r. ⌜ leaves (r .answer) (r .context) (now (out .exit)) ≡ opened self p bearer direction (now (message .entry)) (now (out .entry)) ⌝ }
+        requires { ⌜ (p < 4) × (self .core .size ≤ 64) × (7 ≤ length (now message)) × (length (now message) - 7 ≤ length (now out)) × (typeOf (now message) ≡ 1 → direction ≡ 0 → length (now message) - 7 ≤ length (now second)) ⌝ }
+        ensures { λ r. ⌜ leavesTwo (r .answer) (r .context) (now (out .exit)) (now (second .exit)) ≡ opened self p bearer direction (now (message .entry)) (now (out .entry)) (now (second .entry)) ⌝ }
     {
         let core = self.core;
         let rec = self.records[p];
@@ -109,23 +158,42 @@ impl Context {
                 answer: OpenAnswer::Refused(7),
                 context: self,
             },
-            Opening::Late(c) => self.used_late(p, c)
-                .hand(t, c, rec.distance_to(c), bearer, direction, message, out),
-            Opening::Forward(c) => self.used(p, c)
-                .hand(t, c, rec.distance_to(c), bearer, direction, message, out),
+            Opening::Late(c) => self.used_late(p, c).hand(
+                t,
+                c,
+                rec.distance_to(c),
+                bearer,
+                direction,
+                message,
+                out,
+                second,
+            ),
+            Opening::Forward(c) => self.used(p, c).hand(
+                t,
+                c,
+                rec.distance_to(c),
+                bearer,
+                direction,
+                message,
+                out,
+                second,
+            ),
         }
     }
 
+    // A message of header type 1 and uplink may have a container: its message goes to the second output, which is then as long as the first.
     pub fn open(
         self,
         direction: Direction,
         connection: Connection,
         message: &[u8],
         out: &mut [u8],
+        second: &mut [u8],
     ) -> OpenDone
-        ensures { λ r. ⌜ leaves (r .answer) (r .context) (now (out .exit)) ≡ openOf self direction connection (now (message .entry)) (now (out .entry)) ⌝ }
+        ensures { λ r. ⌜ leavesTwo (r .answer) (r .context) (now (out .exit)) (now (second .exit)) ≡ openOf self direction connection (now (message .entry)) (now (out .entry)) (now (second .entry)) ⌝ }
     {
-        let n = self.open_refusal(message, out.len());
+        let d = crate::direction_number(direction);
+        let n = self.open_refusal(message, room_for(d, message, out.len(), second.len()));
         if n != 0 {
             return OpenDone {
                 answer: OpenAnswer::Refused(n),
@@ -133,12 +201,6 @@ impl Context {
             };
         }
         let p = crate::place(direction, connection);
-        self.receive(
-            p,
-            crate::bearer_number(connection),
-            crate::direction_number(direction),
-            message,
-            out,
-        )
+        self.receive(p, crate::bearer_number(connection), d, message, out, second)
     }
 }

@@ -3,9 +3,12 @@ ghost use mathlib.Core.Path.{_≡_};
 ghost use Prim.Native.Nat.{_+_, _≤_, _<_};
 ghost use lib.ListN.{length};
 ghost use Rattle.count.specs.Rule.{exhausted};
+ghost use Rattle.initial.specs.Messages.{mandatoryLength};
+ghost use Rattle.initial.specs.Outer.{outerLength};
 ghost use Rattle.nas_5gs.specs.Places.{nextAt};
 ghost use Rattle.nas_5gs.specs.Leaves.{leaves};
 ghost use Rattle.nas_5gs.specs.Seal.{sealRefusal, opaqueRefusal, sent, sealOf, sealOpaqueOf};
+ghost use Rattle.nas_5gs.specs.Initial.{initialRefusal, sentInitial, initialOf};
 use crate::Connection;
 use crate::Context;
 use crate::Direction;
@@ -131,5 +134,54 @@ impl Context {
             inner,
             out,
         )
+    }
+
+    fn initial_refusal(self, p: usize, whole: &[u8], room: usize) -> u8
+        requires { ⌜ p < 4 ⌝ }
+        ensures { λ r. ⌜ r ≡ initialRefusal self p (now (whole .entry)) room ⌝ }
+    {
+        let n = self.fault();
+        if n != 0 {
+            return n;
+        }
+        if !initial::is_initial(whole) {
+            return 9;
+        }
+        if !initial::is_hideable(whole) {
+            return 18;
+        }
+        if nas_core::LIMIT < whole.len() {
+            return 4;
+        }
+        let next = self.records[p].next;
+        nas_core::send_refusal(envelope::HEADER, initial::outer_length(whole), room, next)
+    }
+
+    fn send_initial(self, p: usize, bearer: u8, whole: &[u8], out: &mut [u8]) -> UseDone
+        requires { ⌜ (p < 4) × (self .core .size ≤ 64) × (nextAt self p < exhausted) × (mandatoryLength (now whole) ≤ length (now whole)) × (length (now whole) ≤ 65535) × (7 + outerLength (now whole) ≤ length (now out)) ⌝ }
+        ensures { λ r. ⌜ leaves (r .answer) (r .context) (now (out .exit)) ≡ sentInitial self p bearer (now (whole .entry)) (now (out .entry)) ⌝ }
+    {
+        let count = self.records[p].next;
+        let wrote = envelope::HEADER + initial::outer_length(whole);
+        envelope::put_initial(self.core, count, bearer, whole, out);
+        UseDone {
+            answer: UseAnswer::Used { count, wrote },
+            context: self.used(p, count),
+        }
+    }
+
+    // An initial message, whole: what is not cleartext goes out in its container.
+    pub fn initial(self, connection: Connection, whole: &[u8], out: &mut [u8]) -> UseDone
+        ensures { λ r. ⌜ leaves (r .answer) (r .context) (now (out .exit)) ≡ initialOf self connection (now (whole .entry)) (now (out .entry)) ⌝ }
+    {
+        let p = crate::place(Direction::Uplink, connection);
+        let n = self.initial_refusal(p, whole, out.len());
+        if n != 0 {
+            return UseDone {
+                answer: UseAnswer::Refused(n),
+                context: self,
+            };
+        }
+        self.send_initial(p, crate::bearer_number(connection), whole, out)
     }
 }

@@ -4,11 +4,12 @@ use mathlib.Core.Bool.{Bool, true, false, not, _||_}
 use mathlib.Core.List.{List, _∷_}
 use Prim.Native.Nat.{ℕ, _+_, _%_, _≤_}
 use native.Mathlib.Omega.{arith}
-use lib.ListN.{length, length-append}
+use lib.ListN.{length, take, length-append}
 use lib.Dec.{lit<}
 use borrow.Author.Tests.{ltb-false}
 use Rattle.algorithms.specs.Codes.{isBuilt}
 use Rattle.algorithms.proofs.Laws.{built-small, code-length, cipher-length, cipher-twice}
+use Rattle.algorithms.proofs.Prefix.{cipher-prefix}
 use Rattle.refusals.proofs.Laws.{passed, off}
 use Rattle.nas_core.specs.declared.Core.{Core}
 use Rattle.nas_core.specs.Refusals.{unbuilt, coreRefusals, coreFault}
@@ -29,6 +30,12 @@ module _ (x : Core) (c b d : ℕ) (m : List ℕ) where
   unfolding payload
   payload-twice true = cipher-twice (x .ciphering) (x .«ciphering_key») c b d m
   payload-twice false = refl
+
+  -- its first octets are read as if no others followed
+  pub payload-prefix : (t : Bool) (n : ℕ) → payload x t c b d (take n m) ≡ take n (payload x t c b d m)
+  unfolding payload
+  payload-prefix true n = cipher-prefix (x .«ciphering_key») c b d m n (x .ciphering)
+  payload-prefix false n = refl
 
 pub protected-length : (x : Core) (c b d : ℕ) (m : List ℕ) → length (protected x c b d m) ≡ 5 + length m
 unfolding protected

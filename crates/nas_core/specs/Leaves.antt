@@ -19,7 +19,7 @@ abbrev pub usedWith : {X A : Type 0} → (ℕ → ℕ → A) → (ℕ → X) →
 usedWith says used c octets out = leaves (says c (length octets)) (used c) (over octets out)
 
 -- a received message by what it is taken as: 6, 7, or its COUNT used, forward or late, and what it carries handed over
-abbrev pub receivedAs : {X A : Type 0} → (ℕ → X) → (ℕ → X) → (ℕ → Leaves X A) → (ℕ → X → Leaves X A) → Opening → Leaves X A
+abbrev pub receivedAs : {X R : Type 0} → (ℕ → X) → (ℕ → X) → (ℕ → R) → (ℕ → X → R) → Opening → R
 receivedAs used usedLate refused handed None = refused 6
 receivedAs used usedLate refused handed Wrong = refused 7
 receivedAs used usedLate refused handed (Late c) = handed c (usedLate c)
@@ -33,14 +33,15 @@ pub record Values : Type 0 where
   pub count : ℕ
   pub distance : ℕ
   pub wrote : ℕ
+  pub second : ℕ
   pub header : ℕ
   pub carried : ℕ
   pub octet : ℕ
 
 -- a number alone
 abbrev pub refusal : ℕ → Values
-refusal n = record { refused = true; number = n; uses = false; count = 0; distance = 0; wrote = 0; header = 0; carried = 0; octet = 0 }
+refusal n = record { refused = true; number = n; uses = false; count = 0; distance = 0; wrote = 0; second = 0; header = 0; carried = 0; octet = 0 }
 
 -- a success that uses no COUNT
 abbrev pub success : Values
-success = record { refused = false; number = 0; uses = false; count = 0; distance = 0; wrote = 0; header = 0; carried = 0; octet = 0 }
+success = record { refused = false; number = 0; uses = false; count = 0; distance = 0; wrote = 0; second = 0; header = 0; carried = 0; octet = 0 }

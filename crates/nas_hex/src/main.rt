@@ -19,6 +19,12 @@ struct Session {
     at: usize,
 }
 
+// What a line leaves: its slot's context, and the place after its answer.
+struct Reply {
+    context: Context,
+    at: usize,
+}
+
 struct Turn {
     session: Session,
     is_last: bool,
@@ -197,6 +203,15 @@ fn least(a: usize, b: usize) -> usize
     b
 }
 
+fn greatest(a: usize, b: usize) -> usize
+    ensures { λ r. ⌜ (a ≤ r) × (b ≤ r) ⌝ }
+{
+    if a < b {
+        return b;
+    }
+    a
+}
+
 fn flush(print: &[u8], at: usize) {
     if at <= print.len() {
         io::write_all(1, &print[..at]);
@@ -220,12 +235,21 @@ fn room(print: &[u8], at: usize) -> usize
     0
 }
 
-// The call on a context, with n octets of output lent.
-fn performed(line: Line, context: Context, octets: &[u8], lent: &mut [u8], n: usize) -> Done
-    requires { ⌜ n ≤ length (now lent) ⌝ }
+// The call on a context, with n octets of output lent and m of second output.
+fn performed(
+    line: Line,
+    context: Context,
+    octets: &[u8],
+    lent: &mut [u8],
+    n: usize,
+    second: &mut [u8],
+    m: usize,
+) -> Done
+    requires { ⌜ (n ≤ length (now lent)) × (m ≤ length (now second)) ⌝ }
 {
     hex_perform::fill(&mut lent[..n]);
-    hex_perform::perform(line, context, octets, &mut lent[..n])
+    hex_perform::fill(&mut second[..m]);
+    hex_perform::perform(line, context, octets, &mut lent[..n], &mut second[..m])
 }
 
 fn piece_told(octets: &[u8], print: &mut [u8; 65536], at: usize) -> usize
@@ -247,12 +271,49 @@ fn rest_told(octets: &[u8], print: &mut [u8; 65536], at: usize) -> usize {
     piece_told(&octets[done..], print, end)
 }
 
-// What stands behind the octets of a line.
-fn ended(rest: &[u8], is_changed: bool, print: &mut [u8; 65536], at: usize) -> usize {
+// An answer and the n octets that it wrote.
+fn answer_told(
+    answer: Answer,
+    context: Context,
+    lent: &[u8],
+    n: usize,
+    print: &mut [u8; 65536],
+    at: usize,
+) -> usize
+    requires { ⌜ n ≤ length (now lent) ⌝ }
+{
     let from = room(print, at);
-    let tailed = hex_print::tail(rest, print, from);
-    let marked = hex_print::context_mark(is_changed, print, tailed);
-    hex_lines::put_text(b"\n", print, marked)
+    let first = least(n, PIECE);
+    let begun = hex_print::answer_text(answer, context, &lent[..first], print, from);
+    rest_told(&lent[first..n], print, begun)
+}
+
+// The m octets that it wrote in the second output.
+fn second_told(answer: Answer, second: &[u8], m: usize, print: &mut [u8; 65536], at: usize) -> usize
+    requires { ⌜ m ≤ length (now second) ⌝ }
+{
+    let from = room(print, at);
+    let first = least(m, PIECE);
+    let begun = hex_print::second_text(answer, &second[..first], print, from);
+    rest_told(&second[first..m], print, begun)
+}
+
+// The line of an answer in pieces.
+fn told(
+    done: Done,
+    lent: &[u8],
+    second: &[u8],
+    is_changed: bool,
+    print: &mut [u8; 65536],
+    at: usize,
+) -> usize {
+    let answer = done.answer;
+    let wrote = least(hex_print::wrote(answer), lent.len());
+    let beside = least(hex_print::second(answer), second.len());
+    let begun = answer_told(answer, done.context, lent, wrote, print, at);
+    let next = second_told(answer, second, beside, print, begun);
+    let from = room(print, next);
+    hex_print::put_end(&lent[wrote..], &second[beside..], is_changed, print, from)
 }
 
 // The line of an answer: whole, or in pieces where more is lent than is printed at once.
@@ -260,23 +321,49 @@ fn printed(
     done: Done,
     lent: &[u8],
     n: usize,
+    second: &[u8],
+    m: usize,
     is_changed: bool,
     print: &mut [u8; 65536],
     at: usize,
 ) -> usize
-    requires { ⌜ n ≤ length (now lent) ⌝ }
+    requires { ⌜ (n ≤ length (now lent)) × (m ≤ length (now second)) ⌝ }
 {
+    if PIECE / 2 < greatest(n, m) {
+        return told(done, &lent[..n], &second[..m], is_changed, print, at);
+    }
     let answer = done.answer;
     let context = done.context;
     let from = room(print, at);
-    if n <= PIECE {
-        return hex_print::put_line(answer, context, &lent[..n], is_changed, print, from);
-    }
-    let wrote = least(hex_print::wrote(answer), n);
-    let first = least(wrote, PIECE);
-    let begun = hex_print::answer_text(answer, context, &lent[..first], print, from);
-    let told = rest_told(&lent[first..wrote], print, begun);
-    ended(&lent[wrote..n], is_changed, print, told)
+    hex_print::put_line(
+        answer,
+        context,
+        &lent[..n],
+        &second[..m],
+        is_changed,
+        print,
+        from,
+    )
+}
+
+// The call of a line on a context, and the line of its answer.
+fn replied(
+    line: Line,
+    before: Context,
+    octets: &[u8],
+    lent: &mut [u8],
+    second: &mut [u8],
+    print: &mut [u8; 65536],
+    at: usize,
+) -> Reply {
+    let n = least(line.room, lent.len());
+    let m = least(line.second, second.len());
+    let held = hex_lines::front(octets, line.octets);
+    let done = performed(line, before, held, lent, n, second, m);
+    let is_changed = is_changed(line, done, before);
+    let end = printed(done, lent, n, second, m, is_changed, print, at);
+    let context = done.context;
+    Reply { context, at: end }
 }
 
 impl Session {
@@ -299,6 +386,7 @@ impl Session {
         text: &[u8],
         octets: &[u8],
         lent: &mut [u8],
+        second: &mut [u8],
         print: &mut [u8; 65536],
     ) -> Session {
         let parsed = hex_parse::parse(hex_lines::front(text, self.held), lent);
@@ -307,11 +395,9 @@ impl Session {
         self.digits = 0;
         let slot = line.slot % 8;
         let before = self.slots[slot];
-        let n = least(line.room, lent.len());
-        let done = performed(line, before, hex_lines::front(octets, line.octets), lent, n);
-        let is_changed = is_changed(line, done, before);
-        self.at = printed(done, lent, n, is_changed, print, self.at);
-        let after = done.context;
+        let reply = replied(line, before, octets, lent, second, print, self.at);
+        self.at = reply.at;
+        let after = reply.context;
         self.slots[slot] = after;
         self
     }
@@ -324,12 +410,13 @@ impl Session {
         text: &mut [u8],
         octets: &mut [u8],
         lent: &mut [u8],
+        second: &mut [u8],
         print: &mut [u8; 65536],
     ) -> Session {
         self.held = held(piece, text, self.held);
         self.digits = decoded(piece, octets, self.digits);
         if is_end {
-            return self.answered(text, octets, lent, print);
+            return self.answered(text, octets, lent, second, print);
         }
         self
     }
@@ -341,6 +428,7 @@ impl Session {
         text: &mut [u8],
         octets: &mut [u8],
         lent: &mut [u8],
+        second: &mut [u8],
         print: &mut [u8; 65536],
     ) -> Session {
         let mut session = self;
@@ -348,10 +436,10 @@ impl Session {
         while at < input.len() {
             let end = hex_lines::find(input, at, 10);
             if end == input.len() {
-                return session.with(&input[at..end], false, text, octets, lent, print);
+                return session.with(&input[at..end], false, text, octets, lent, second, print);
             }
             let after = end + 1;
-            let next = session.with(&input[at..end], true, text, octets, lent, print);
+            let next = session.with(&input[at..end], true, text, octets, lent, second, print);
             session = next;
             at = after;
         }
@@ -372,6 +460,7 @@ fn read_some(
     text: &mut [u8],
     octets: &mut [u8],
     lent: &mut [u8],
+    second: &mut [u8],
     print: &mut [u8; 65536],
 ) -> Turn {
     let got = libc::read(0, input);
@@ -383,7 +472,14 @@ fn read_some(
         };
     }
     let n = io::count(got, input);
-    let taken = session.taken(hex_lines::front(input, n), text, octets, lent, print);
+    let taken = session.taken(
+        hex_lines::front(input, n),
+        text,
+        octets,
+        lent,
+        second,
+        print,
+    );
     Turn {
         session: taken.flushed(print),
         is_last: false,
@@ -392,14 +488,21 @@ fn read_some(
 }
 
 // What follows the last line end is a line too, if the input ended there; if a read failed, it is not known to be one.
-fn finish(turn: Turn, text: &[u8], octets: &[u8], lent: &mut [u8], print: &mut [u8; 65536]) {
+fn finish(
+    turn: Turn,
+    text: &[u8],
+    octets: &[u8],
+    lent: &mut [u8],
+    second: &mut [u8],
+    print: &mut [u8; 65536],
+) {
     if turn.is_error {
         io::write_all(2, b"nas_hex: a read failed\n");
         return;
     }
     let session = turn.session;
     if session.held != 0 {
-        let last = session.answered(text, octets, lent, print);
+        let last = session.answered(text, octets, lent, second, print);
         last.flushed(print);
     }
 }
@@ -411,6 +514,7 @@ fn run(
     text: &mut [u8],
     octets: &mut [u8],
     lent: &mut [u8],
+    second: &mut [u8],
     print: &mut [u8; 65536],
 ) -> Turn {
     let mut turn = Turn {
@@ -421,7 +525,7 @@ fn run(
     let mut turns = u64::MAX;
     while turns > 0 {
         let state = turn.session;
-        let next = read_some(state, input, text, octets, lent, print);
+        let next = read_some(state, input, text, octets, lent, second, print);
         turn = next;
         if turn.is_last {
             return turn;
@@ -436,6 +540,7 @@ fn main() {
     let mut text = io::buffer();
     let mut octets = io::large_buffer();
     let mut lent = io::large_buffer();
+    let mut second = io::large_buffer();
     let mut print = io::large_buffer();
     let turn = run(
         Session::new(),
@@ -443,7 +548,8 @@ fn main() {
         &mut text,
         &mut octets,
         &mut lent,
+        &mut second,
         &mut print,
     );
-    finish(turn, &text, &octets, &mut lent, &mut print);
+    finish(turn, &text, &octets, &mut lent, &mut second, &mut print);
 }

@@ -23,17 +23,23 @@ use Rattle.nas_core.specs.Keyed.{wraps, payload}
 use Rattle.nas_core.specs.Refusals.{limit, sendRefusals}
 use Rattle.nas_core.specs.Verify.{fits, verifyOf}
 use Rattle.look.specs.Look.{notKnown, notTogether, wrongWay, lookRefusals, lookOf}
+use Rattle.initial.specs.Messages.{isInitial}
+use Rattle.initial.specs.Outer.{isHideable, outerLength}
+use Rattle.envelope.specs.Initial.{initialEnvelope}
 use Rattle.nas_5gs.specs.declared.Context.{Context}
 use Rattle.nas_5gs.specs.declared.Direction.{Direction}
+use Rattle.nas_5gs.specs.declared.Direction.the-variants.{Uplink}
 use Rattle.nas_5gs.specs.declared.Connection.{Connection}
 use Rattle.nas_5gs.specs.Places.{directionNo, bearerNo, placeOf, recordAt, nextAt, faultOf}
 use Rattle.nas_5gs.specs.Leaves.{useNext, received, verifyValues, refusal}
 use Rattle.nas_5gs.specs.Envelope.{wrongType, envelope}
 use Rattle.nas_5gs.specs.Seal.{sealRefusals, sealRefusal, opaqueRefusals, opaqueRefusal}
-use Rattle.nas_5gs.specs.Open.{typeOf, openRefusal, opened, openOf}
+use Rattle.nas_5gs.specs.Initial.{initialRefusals, initialRefusal}
+use Rattle.nas_5gs.proofs.Passed.{initial-is}
+use Rattle.nas_5gs.specs.Open.{typeOf, openRefusal, plainOf, opened, openOf}
 use Rattle.nas_5gs.specs.Eps.{epsPlace, notEps, epsMessage, sealEpsRefusals, sealEpsRefusal}
 use Rattle.nas_5gs.specs.Containers.{containerPlace, containerBearer, containerDirection, noneLeft, s1Count, s1ToN1, s1ToN1Refusals, s1ToN1Refusal, otherAlgorithms, verifyS1ToN1Refusals, verifyS1ToN1Refusal}
-use Rattle.promises.specs.Calls.{Call, seal5gs, sealOpaque, open5gs, sealEps, makeN1ToS1, verifyN1ToS1, makeS1ToN1, verifyS1ToN1, Outcome, outcome, gives}
+use Rattle.promises.specs.Calls.{Call, seal5gs, sealOpaque, sealInitial, open5gs, sealEps, makeN1ToS1, verifyN1ToS1, makeS1ToN1, verifyS1ToN1, Outcome, outcome, gives}
 use Rattle.promises.specs.Words.{Succeeds, Uses, written}
 use Rattle.promises.specs.Demand2.{CanSend, Passes, Accepts, SealedNothing, Octets, Demand2}
 use Rattle.promises.proofs.Shapes.{refusalOf, octetFound, octetRefused, octetUsed}
@@ -53,24 +59,24 @@ type-passes : (t : ℕ) → 1 ≤ t → t ≤ 4 → wrongType t ≡ false
 unfolding wrongType
 type-passes t from to = simp (le-ltb t 1 from, le-ltb 4 t to)
 
-module _ (z : Context) (p header : ℕ) (inner out : List ℕ) where
+module _ (z : Context) (p header n : ℕ) (out : List ℕ) where
   abbrev send-list : List ℕ
-  send-list = sendRefusals header (length inner) (length out) (nextAt z p)
+  send-list = sendRefusals header n (length out) (nextAt z p)
 
-  can-send : faultOf z ≡ 0 → ((i : ℕ) → getD send-list i 0 ≡ 0) → CanSend z p header inner out
+  can-send : faultOf z ≡ 0 → ((i : ℕ) → getD send-list i 0 ≡ 0) → CanSend z p header n out
   can-send fault was =
       record {
         faultless = fault;
         count = leb-false exhausted (nextAt z p) (off 6 (leb exhausted (nextAt z p)) (omega arith) (was 2));
-        short = ltb-false limit (length inner) (off 4 (ltb limit (length inner)) (omega arith) (was 0));
-        room = ltb-false (length out) (header + length inner) (off 5 (ltb (length out) (header + length inner)) (omega arith) (was 1));
+        short = ltb-false limit n (off 4 (ltb limit n) (omega arith) (was 0));
+        room = ltb-false (length out) (header + n) (off 5 (ltb (length out) (header + n)) (omega arith) (was 1));
       }
 
-  send-passes : CanSend z p header inner out → first send-list ≡ 0
+  send-passes : CanSend z p header n out → first send-list ≡ 0
   send-passes h =
       simp (
-        le-ltb limit (length inner) (h .short),
-        le-ltb (length out) (header + length inner) (h .room),
+        le-ltb limit n (h .short),
+        le-ltb (length out) (header + n) (h .room),
         lt-leb exhausted (nextAt z p) (h .count),
       )
 
@@ -79,21 +85,21 @@ module _ (z : Context) where
     abbrev made : ℕ → List ℕ
     made c = envelope (z .core) t c (bearerNo k) (directionNo d) inner
 
-    opaque-exactly : Succeeds (gives (sealOpaque t d k inner out) z) ↔ (CanSend z (placeOf d k) 7 inner out × (1 ≤ t) × (t ≤ 4))
+    opaque-exactly : Succeeds (gives (sealOpaque t d k inner out) z) ↔ (CanSend z (placeOf d k) 7 (length inner) out × (1 ≤ t) × (t ≤ 4))
     unfolding opaqueRefusal
     opaque-exactly = (
       (λ h.
           let was = passed (opaqueRefusals z t (placeOf d k) inner (length out)) (e .0 h) in
           let r = type-right t (off 3 (wrongType t) (omega arith) (was 1)) in
-          (can-send z (placeOf d k) 7 inner out (was 0) (λ i. was (suc (suc i))), r .0, r .1)),
-      λ h. e .1 (simp (h .0 .faultless, type-passes t (h .1) (h .2)) (send-passes z (placeOf d k) 7 inner out (h .0))),
+          (can-send z (placeOf d k) 7 (length inner) out (was 0) (λ i. was (suc (suc i))), r .0, r .1)),
+      λ h. e .1 (simp (h .0 .faultless, type-passes t (h .1) (h .2)) (send-passes z (placeOf d k) 7 (length inner) out (h .0))),
     )
       where
         e : Succeeds (gives (sealOpaque t d k inner out) z) ↔ (refusalOf (sealOpaque t d k inner out) z ≡ 0)
         e = sent-exactly (sealOpaque t d k inner out) z (placeOf d k) made out refl
 
     seal-exactly : Succeeds (gives (seal5gs t d k inner out) z)
-        ↔ (CanSend z (placeOf d k) 7 inner out × (1 ≤ t) × (t ≤ 4) × (lookOf t (directionNo d) inner ≡ 0))
+        ↔ (CanSend z (placeOf d k) 7 (length inner) out × (1 ≤ t) × (t ≤ 4) × (lookOf t (directionNo d) inner ≡ 0))
     unfolding sealRefusal lookOf
     seal-exactly = (
       (λ h.
@@ -101,7 +107,7 @@ module _ (z : Context) where
           let r = type-right t (off 3 (wrongType t) (omega arith) (was 2)) in
           let l = look-passed t (directionNo d) inner (off 9 (notKnown inner) (omega arith) (was 1))
           (off 10 (notTogether t inner) (omega arith) (was 3)) (off 11 (wrongWay (directionNo d) inner) (omega arith) (was 4)) in
-          (can-send z (placeOf d k) 7 inner out (was 0) (λ i. was (suc (suc (suc (suc (suc i)))))), r .0, r .1, l)),
+          (can-send z (placeOf d k) 7 (length inner) out (was 0) (λ i. was (suc (suc (suc (suc (suc i)))))), r .0, r .1, l)),
       λ h.
           let l = passed (lookRefusals t (directionNo d) inner) (h .3) in
           e .1 (simp (
@@ -111,19 +117,34 @@ module _ (z : Context) where
             off 10 (notTogether t inner) (omega arith) (l 1),
             off 11 (wrongWay (directionNo d) inner) (omega arith) (l 2),
           )
-          (send-passes z (placeOf d k) 7 inner out (h .0))),
+          (send-passes z (placeOf d k) 7 (length inner) out (h .0))),
     )
       where
         e : Succeeds (gives (seal5gs t d k inner out) z) ↔ (refusalOf (seal5gs t d k inner out) z ≡ 0)
         e = sent-exactly (seal5gs t d k inner out) z (placeOf d k) made out refl
 
-  eps-exactly : (inner out : List ℕ) → Succeeds (gives (sealEps inner out) z) ↔ (CanSend z epsPlace 6 inner out × (notEps inner ≡ false))
+  initial-exactly : (k : Connection) (w out : List ℕ)
+      → Succeeds (gives (sealInitial k w out) z) ↔ (CanSend z (placeOf Uplink k) 7 (outerLength w) out × (isInitial w ≡ true) × (isHideable w ≡ true))
+  unfolding initialRefusal
+  initial-exactly k w out = (
+    (λ h.
+        let p = placeOf Uplink k in
+        let was = passed (initialRefusals z p w (length out)) (e .0 h) in
+        let i = initial-is z p w (length out) (e .0 h) in
+        (can-send z p 7 (outerLength w) out (was 0) (λ i. was (suc (suc (suc i)))), i .0, i .1)),
+    λ h. e .1 (simp (h .0 .faultless, h .1, h .2) (send-passes z (placeOf Uplink k) 7 (outerLength w) out (h .0))),
+  )
+    where
+      e : Succeeds (gives (sealInitial k w out) z) ↔ (refusalOf (sealInitial k w out) z ≡ 0)
+      e = sent-exactly (sealInitial k w out) z (placeOf Uplink k) (λ c. initialEnvelope (z .core) c (bearerNo k) w) out refl
+
+  eps-exactly : (inner out : List ℕ) → Succeeds (gives (sealEps inner out) z) ↔ (CanSend z epsPlace 6 (length inner) out × (notEps inner ≡ false))
   unfolding sealEpsRefusal
   eps-exactly inner out = (
     (λ h.
         let was = passed (sealEpsRefusals z inner (length out)) (e .0 h) in
-        (can-send z epsPlace 6 inner out (was 0) (λ i. was (suc (suc i))), off 12 (notEps inner) (omega arith) (was 1))),
-    λ h. e .1 (simp (h .0 .faultless, h .1) (send-passes z epsPlace 6 inner out (h .0))),
+        (can-send z epsPlace 6 (length inner) out (was 0) (λ i. was (suc (suc i))), off 12 (notEps inner) (omega arith) (was 1))),
+    λ h. e .1 (simp (h .0 .faultless, h .1) (send-passes z epsPlace 6 (length inner) out (h .0))),
   )
     where
       e : Succeeds (gives (sealEps inner out) z) ↔ (refusalOf (sealEps inner out) z ≡ 0)
@@ -232,6 +253,7 @@ accepts z =
     record {
       opaque = opaque-exactly z;
       seal = seal-exactly z;
+      initial = initial-exactly z;
       eps = eps-exactly z;
       s1ToN1 = s1-exactly z;
       n1ToS1 = n1-exactly z;
@@ -240,25 +262,25 @@ accepts z =
     }
 
 -- an opaque seal of nothing
-seven-refused : (x : Context) (d : Direction) (k : Connection) (m room : List ℕ) → faultOf x ≡ 0 → length m ≡ 7 → getD m 0 0 ≡ 0x7E
-    → wrongType (typeOf m) ≡ false → gives (open5gs d k m room) x .values ≡ refusal 1
+seven-refused : (x : Context) (d : Direction) (k : Connection) (m room room2 : List ℕ) → faultOf x ≡ 0 → length m ≡ 7 → getD m 0 0 ≡ 0x7E
+    → wrongType (typeOf m) ≡ false → gives (open5gs d k m room room2) x .values ≡ refusal 1
 unfolding openRefusal
-seven-refused x d k m room fault long first-octet type =
-    let e : refusalOf (open5gs d k m room) x ≡ 1 =
+seven-refused x d k m room room2 fault long first-octet type =
+    let e : refusalOf (open5gs d k m room room2) x ≡ 1 =
     simp (fault, le-ltb (length m) 7 (omega arith), eq-eqb (getD m 0 0) 0x7E first-octet, type, eq-eqb (length m) 7 long) in
-    rw (gives-refused (open5gs d k m room) x (λ z. omega arith)) (ap refusal e)
+    rw (gives-refused (open5gs d k m room room2) x (λ z. omega arith)) (ap refusal e)
 
 sealed-nothing : (z x : Context) → SealedNothing z x
 sealed-nothing z x =
     record {
       gives-7 = λ t d k out h. let w = writes z .opaque t d k [] out h in (w .2, w .0);
-      refused = λ t d d′ k k′ out room h fault.
+      refused = λ t d d′ k k′ out room room2 h fault.
           let b = bearerNo k in let e = directionNo d in
           let c = gives (sealOpaque t d k [] out) z .values .count in
           let r = opaque-type z t d k [] out h in
-          subst (λ (m : List ℕ). gives (open5gs d′ k′ m room) x .values ≡ refusal 1)
+          subst (λ (m : List ℕ). gives (open5gs d′ k′ m room room2) x .values ≡ refusal 1)
           (sym (writes z .opaque t d k [] out h .1))
-          (seven-refused x d′ k′ (envelope (z .core) t c b e []) room fault (envelope-long (z .core) t c b e []) (envelope-first (z .core) t c b e [])
+          (seven-refused x d′ k′ (envelope (z .core) t c b e []) room room2 fault (envelope-long (z .core) t c b e []) (envelope-first (z .core) t c b e [])
           (ap wrongType (envelope-type (z .core) t c b e [] (r .0) (r .1)) ∙ type-passes t (r .0) (r .1)));
     }
 
@@ -269,11 +291,11 @@ unchanged x e true c b d m = rw e
 unchanged x e false c b d m = refl
 
 octets : (x : Context) → Octets x
-unfolding openOf opened openRefusal verifyOf fits
+unfolding openOf opened plainOf openRefusal verifyOf fits
 octets x =
     record {
       unchanged = unchanged (x .core);
-      high-half = λ d k h t m out. let q : (h * 16 + t) % 16 ≡ t % 16 = omega arith in rw q;
+      high-half = λ d k h t m out out2. let q : (h * 16 + t) % 16 ≡ t % 16 = omega arith in (rw q, rw q);
       covers = λ c b d t m. refl;
       whole = λ v. refl;
     }

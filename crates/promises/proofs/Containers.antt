@@ -65,9 +65,9 @@ module _ (x : Context) where
   pub estimates : Estimates gives x
   estimates =
       record {
-        opens = λ d k m out c u.
+        opens = λ d k m out out2 c u.
             let b = bearerNo k in let e = directionNo d in let p = placeOf d k in
-            let q = open-left x d k m out (uses-passed (open5gs d k m out) x (u .0)) in
+            let q = open-left x d k m out out2 (uses-passed (open5gs d k m out out2) x (u .0)) in
             let a = open-answering x p b e m out in
             let u′ : Uses (left openValues open′.Refused (openedAs x p b e m out) (plain x p b e m out) a x p out (found x p b e m out)) c =
             subst (λ (w : Outcome). Uses w c) q u in

@@ -21,11 +21,14 @@ use Rattle.refusals.specs.Order.{_when_, first, refusedOr}
 use Rattle.refusals.proofs.Laws.{passed, off}
 use Rattle.algorithms.proofs.Laws.{code-length}
 use Rattle.algorithms.specs.Codes.{isBuilt}
-use Rattle.look.specs.Look.{lookOf}
 use Rattle.nas_core.specs.Refusals.{unbuilt, coreFault}
 use Rattle.nas_core.specs.Keyed.{wraps, codeBy}
+use Rattle.initial.specs.Outer.{outerLength}
+use Rattle.envelope.specs.Initial.{initialEnvelope, beside}
+use Rattle.envelope.proofs.Lengths.{initial-length}
 use Rattle.nas_5gs.specs.declared.Context.{Context}
 use Rattle.nas_5gs.specs.declared.Direction.{Direction}
+use Rattle.nas_5gs.specs.declared.Direction.the-variants.{Uplink}
 use Rattle.nas_5gs.specs.declared.Connection.{Connection}
 use Rattle.nas_5gs.specs.declared.ChangeAnswer.the-variants as change
 use Rattle.nas_5gs.specs.declared.UseAnswer.the-variants as use′
@@ -36,15 +39,18 @@ use Rattle.nas_5gs.specs.Leaves.{leaves, over, useNext, received, Values, refus
 use Rattle.nas_5gs.specs.Changes.{refusedContext, newOf, restoreOf, reselectOf, windowOf}
 use Rattle.nas_5gs.specs.Envelope.{ciphers, envelope}
 use Rattle.nas_5gs.specs.Seal.{sealRefusals, sealRefusal, opaqueRefusals, opaqueRefusal}
-use Rattle.nas_5gs.specs.Open.{typeOf, openRefusals, openRefusal, handed, opened}
+use Rattle.nas_5gs.specs.Initial.{initialRefusals, initialRefusal}
+use Rattle.nas_5gs.proofs.Passed.{initial-whole, rooms}
+use Rattle.nas_5gs.specs.Open.{typeOf, openRefusals, openRefusal, roomFor}
 use Rattle.nas_5gs.specs.Eps.{epsPlace, notEps, epsMessage, sealEpsRefusals, sealEpsRefusal, openEpsRefusals, openEpsRefusal, epsHanded, epsOpened}
 use Rattle.nas_5gs.specs.Containers.{containerPlace, containerBearer, containerDirection, s1Count, s1Value, s1ToN1, s1ToN1Refusals, s1ToN1Refusal}
-use Rattle.promises.specs.Calls.{create, restore, makes, Call, setWindow, reselect, seal5gs, sealOpaque, open5gs, sealEps, openEps, makeN1ToS1, verifyN1ToS1, makeS1ToN1, verifyS1ToN1, Outcome, outcome, gives, lent, placeIn}
+use Rattle.promises.specs.Calls.{create, restore, makes, Call, setWindow, reselect, seal5gs, sealOpaque, sealInitial, open5gs, sealEps, openEps, makeN1ToS1, verifyN1ToS1, makeS1ToN1, verifyS1ToN1, Outcome, outcome, gives, lent, placeIn}
 use Rattle.promises.specs.Demand1.{numbersOf, Demand1, MayBeLate, Demand1Uses, HandsOver, Opened, plain5gs, Demand1Open, Built, Demand1Making, Demand1Changes}
-use Rattle.promises.proofs.Shapes.{refusalOf, found, plain, look, openedAs, epsFound, epsAs, octetFound, octetRefused, octetAs, octetUsed}
+use Rattle.promises.proofs.Shapes.{refusalOf, found, plain, look, inside, carried, openedAs, epsFound, epsAs, octetFound, octetRefused, octetAs, octetUsed}
 use Rattle.promises.proofs.Passing.{passes, alone, sends, gives-passed, gives-refused, uses-passed}
-use Rattle.promises.proofs.Numbers.{Among, there, or-right, refusal-listed, refusal-not-8, look-listed, fault-first}
+use Rattle.promises.proofs.Numbers.{Among, there, or-right, refusal-listed, refusal-not-8, look-listed, carried-listed, fault-first}
 use Rattle.promises.proofs.Opening.{payload-length, eps-sealed}
+use Rattle.promises.proofs.Seconds.{seconds, second-left, told-second}
 use Rattle.promises.proofs.Taking.{Answering, left, open-answering, eps-answering, open-left, eps-left, envelope-long}
 
 -- what demand 1 says of one outcome
@@ -114,7 +120,7 @@ s1-long x ncc ngksi =
     simp (length-append, n)
 
 told-passes : (k : Call) (x : Context) → refusalOf k x ≡ 0 → Told (numbersOf k) x (lent k) (passes k x)
-unfolding sealRefusal opaqueRefusal openRefusal sealEpsRefusal openEpsRefusal s1ToN1Refusal opened handed epsOpened epsHanded
+unfolding sealRefusal opaqueRefusal initialRefusal openRefusal sealEpsRefusal openEpsRefusal s1ToN1Refusal epsOpened epsHanded
 told-passes (setWindow n) x e = record { answers = inl refl; kept = λ a b. absurd (a refl); behind = refl; room = refl; within = omega arith }
 told-passes (reselect i c ik ck) x e = record { answers = inl refl; kept = λ a b. absurd (a refl); behind = refl; room = refl; within = omega arith }
 told-passes (seal5gs t d k inner out) x e =
@@ -127,12 +133,19 @@ told-passes (sealOpaque t d k inner out) x e =
     let h : 7 + length inner ≤ length out = fits-room (opaqueRefusals x t p inner (length out)) 3 (length out) (7 + length inner) e refl in
     told-sends (numbersOf (sealOpaque t d k inner out)) x out p (λ c. envelope (x .core) t c (bearerNo k) (directionNo d) inner)
     (omega (arith, envelope-long (x .core) t (nextAt x p) (bearerNo k) (directionNo d) inner))
-told-passes (open5gs d k m out) x e =
-    let s = numbersOf (open5gs d k m out) in
+told-passes (sealInitial k w out) x e =
+    let p = placeOf Uplink k in
+    let h : 7 + outerLength w ≤ length out = fits-room (initialRefusals x p w (length out)) 4 (length out) (7 + outerLength w) e refl in
+    told-sends (numbersOf (sealInitial k w out)) x out p (λ c. initialEnvelope (x .core) c (bearerNo k) w)
+    (omega (arith, initial-length (x .core) (nextAt x p) (bearerNo k) w (initial-whole x p w (length out) e)))
+told-passes (open5gs d k m out out2) x e =
+    let s = numbersOf (open5gs d k m out out2) in
+    let room = roomFor (typeOf m) (directionNo d) (length out) (length out2) in
     let b = bearerNo k in
     let f = directionNo d in
     let p = placeOf d k in
-    let h : length m - 7 ≤ length out = fits-room (openRefusals x m (length out)) 6 (length out) (length m - 7) e refl in
+    let h : length m - 7 ≤ length out =
+    rooms (typeOf m) f (length m - 7) (length out) (length out2) (fits-room (openRefusals x m room) 6 room (length m - 7) e refl) .0 in
     told-received s x out openValues open′.Refused (openedAs x p b f m out) (plain x p b f m out) (open-answering x p b f m out) p (found x p b f m out)
     (λ n. refl) (there 6 s refl) (there 7 s refl) (there 8 s refl)
     (λ c. omega (arith, payload-length (x .core) c b f (drop 7 m) (ciphers (typeOf m)), length-drop 7 m))
@@ -168,7 +181,19 @@ fault-told k x f = let e = fault-first k x f in rw (gives-refused k x (λ z. f (
 pub demand1 : (k : Call) (x : Context) → Demand1 k x
 demand1 k x =
     let t = told k x in
-    record { answers = t .answers; kept = t .kept; behind = t .behind; room = t .room; within = t .within; fault = fault-told k x }
+    let s = seconds k x in
+    record {
+      answers = t .answers;
+      kept = t .kept;
+      behind = t .behind;
+      room = t .room;
+      within = t .within;
+      behind-second = s .behind;
+      room-second = s .room;
+      within-second = s .within;
+      untouched = s .untouched;
+      fault = fault-told k x;
+    }
 
 -- what an open call hands over
 module _ {A : Type 0} (v : A → Values) (no′ yes′ : ℕ → A) (plain-of : ℕ → List ℕ) (a : Answering v no′ yes′ plain-of) (alike : (n : ℕ) → v (no′ n) ≡ refusal n)
@@ -231,12 +256,13 @@ module _ (x : Context) where
   octet-never-late n c e = never (answers (λ c′. true) Nothing (forwardOf 8 (wraps (x .core)) (recordAt x containerPlace) n) (Late c) .0 e .0)
 
   passes-uses : (k : Call) → UsedAs (placeIn k) (MayBeLate k) (passes k x)
-  unfolding opened handed epsOpened epsHanded
+  unfolding epsOpened epsHanded
   passes-uses (setWindow n) u = let z : _≡_ {A = ℕ} 0 1 = cc in absurd (omega arith)
   passes-uses (reselect i c ik ck) u = let z : _≡_ {A = ℕ} 0 1 = cc in absurd (omega arith)
   passes-uses (seal5gs t d k inner out) u = sent-uses (placeOf d k) ⊥ (λ c. envelope (x .core) t c (bearerNo k) (directionNo d) inner) out u
   passes-uses (sealOpaque t d k inner out) u = sent-uses (placeOf d k) ⊥ (λ c. envelope (x .core) t c (bearerNo k) (directionNo d) inner) out u
-  passes-uses (open5gs d k m out) u =
+  passes-uses (sealInitial k w out) u = sent-uses (placeOf Uplink k) ⊥ (λ c. initialEnvelope (x .core) c (bearerNo k) w) out u
+  passes-uses (open5gs d k m out out2) u =
       let b = bearerNo k in let f = directionNo d in let p = placeOf d k in
       received-uses openValues open′.Refused (openedAs x p b f m out) (plain x p b f m out) (open-answering x p b f m out) p out (found x p b f m out) u
   passes-uses (sealEps inner out) u = sent-uses epsPlace ⊥ (λ c. epsMessage (x .core) c inner) out u
@@ -260,34 +286,46 @@ module _ (x : Context) (p b d : ℕ) (m out : List ℕ) where
   abbrev openLeft : Opening → Outcome
   openLeft o = left openValues open′.Refused (openedAs x p b d m out) (plain x p b d m out) (open-answering x p b d m out) x p out o
 
-  tells-as : (c : ℕ) → (valuesAs c .header ≡ typeOf m) × (valuesAs c .carried ≡ look x p b d m out c)
-  tells-as c = go (eqb (look x p b d m out c) 0) refl
+  tells-as : (c : ℕ) → (valuesAs c .header ≡ typeOf m) × (valuesAs c .carried ≡ carried x p b d m out c)
+  tells-as c = go (eqb (carried x p b d m out c) 0) refl
     where
-      go : (t : Bool) → eqb (look x p b d m out c) 0 ≡ t
+      go : (t : Bool) → eqb (carried x p b d m out c) 0 ≡ t
           → let w = openValues (
-          cond t (open′.Accepted c (distanceOf (recordAt x p) c) (length (plain x p b d m out c)) (typeOf m))
-          (open′.Content c (distanceOf (recordAt x p) c) (length (plain x p b d m out c)) (typeOf m) (look x p b d m out c))) in
-          (w .header ≡ typeOf m) × (w .carried ≡ look x p b d m out c)
-      go true e = (refl, sym (eqb-true (look x p b d m out c) 0 e))
+          cond t (open′.Accepted c (distanceOf (recordAt x p) c) (length (plain x p b d m out c)) (typeOf m) (length (beside (inside x p b d m out c))))
+          (open′.Content c (distanceOf (recordAt x p) c) (length (plain x p b d m out c)) (typeOf m) (carried x p b d m out c))) in
+          (w .header ≡ typeOf m) × (w .carried ≡ carried x p b d m out c)
+      go true e = (refl, sym (eqb-true (carried x p b d m out c) 0 e))
       go false e = (refl, refl)
 
-  content-as : (c : ℕ) → valuesAs c .number ≡ 8 → In (valuesAs c .carried) (9 ∷ 10 ∷ 11 ∷ [])
-  content-as c = go (eqb (look x p b d m out c) 0) refl
+  content-as : (c : ℕ) → valuesAs c .number ≡ 8 → In (valuesAs c .carried) (9 ∷ 10 ∷ 11 ∷ 18 ∷ [])
+  content-as c = go (eqb (carried x p b d m out c) 0) refl
     where
-      listed : (eqb (look x p b d m out c) 0 ≡ false) → Among (9 ∷ 10 ∷ 11 ∷ []) (look x p b d m out c) → In (look x p b d m out c) (9 ∷ 10 ∷ 11 ∷ [])
-      listed e (inl z) = absurd (eqb-false (look x p b d m out c) 0 e z)
+      listed : (eqb (carried x p b d m out c) 0 ≡ false) → Among (9 ∷ 10 ∷ 11 ∷ 18 ∷ []) (carried x p b d m out c) → In (carried x p b d m out c) (9 ∷ 10 ∷ 11 ∷ 18 ∷ [])
+      listed e (inl z) = absurd (eqb-false (carried x p b d m out c) 0 e z)
       listed e (inr h) = h
 
-      go : (t : Bool) → eqb (look x p b d m out c) 0 ≡ t
+      go : (t : Bool) → eqb (carried x p b d m out c) 0 ≡ t
           → let w = openValues (
-          cond t (open′.Accepted c (distanceOf (recordAt x p) c) (length (plain x p b d m out c)) (typeOf m))
-          (open′.Content c (distanceOf (recordAt x p) c) (length (plain x p b d m out c)) (typeOf m) (look x p b d m out c))) in
-          w .number ≡ 8 → In (w .carried) (9 ∷ 10 ∷ 11 ∷ [])
+          cond t (open′.Accepted c (distanceOf (recordAt x p) c) (length (plain x p b d m out c)) (typeOf m) (length (beside (inside x p b d m out c))))
+          (open′.Content c (distanceOf (recordAt x p) c) (length (plain x p b d m out c)) (typeOf m) (carried x p b d m out c))) in
+          w .number ≡ 8 → In (w .carried) (9 ∷ 10 ∷ 11 ∷ 18 ∷ [])
       go true e h = absurd (omega arith)
-      go false e h = listed e (look-listed (typeOf m) d (plain x p b d m out c))
+      go false e h = listed e (carried-listed (look x p b d m out c) (inside x p b d m out c) (look-listed (typeOf m) d (plain x p b d m out c)))
+
+  -- a success carries none
+  success-as : (c : ℕ) → valuesAs c .number ≡ 0 → valuesAs c .carried ≡ 0
+  success-as c = go (eqb (carried x p b d m out c) 0)
+    where
+      go : (t : Bool)
+          → let w = openValues (
+          cond t (open′.Accepted c (distanceOf (recordAt x p) c) (length (plain x p b d m out c)) (typeOf m) (length (beside (inside x p b d m out c))))
+          (open′.Content c (distanceOf (recordAt x p) c) (length (plain x p b d m out c)) (typeOf m) (carried x p b d m out c))) in
+          w .number ≡ 0 → w .carried ≡ 0
+      go true h = refl
+      go false h = absurd (omega arith)
 
   tells-left : (o : Opening) → Opened (openLeft o)
-      → (openLeft o .values .header ≡ typeOf m) × (openLeft o .values .carried ≡ lookOf (typeOf m) d (plain x p b d m out (openLeft o .values .count)))
+      → (openLeft o .values .header ≡ typeOf m) × (openLeft o .values .carried ≡ carried x p b d m out (openLeft o .values .count))
   tells-left None (inl h) = absurd (omega arith)
   tells-left None (inr h) = absurd (omega arith)
   tells-left Wrong (inl h) = absurd (omega arith)
@@ -295,11 +333,17 @@ module _ (x : Context) (p b d : ℕ) (m out : List ℕ) where
   tells-left (Late c) h = rw (open-answering x p b d m out .count c) (tells-as c)
   tells-left (Forward c) h = rw (open-answering x p b d m out .count c) (tells-as c)
 
-  carries-left : (o : Opening) → openLeft o .values .number ≡ 8 → In (openLeft o .values .carried) (9 ∷ 10 ∷ 11 ∷ [])
+  carries-left : (o : Opening) → openLeft o .values .number ≡ 8 → In (openLeft o .values .carried) (9 ∷ 10 ∷ 11 ∷ 18 ∷ [])
   carries-left None h = absurd (omega arith)
   carries-left Wrong h = absurd (omega arith)
   carries-left (Late c) h = content-as c h
   carries-left (Forward c) h = content-as c h
+
+  success-left : (o : Opening) → openLeft o .values .number ≡ 0 → openLeft o .values .carried ≡ 0
+  success-left None h = refl
+  success-left Wrong h = refl
+  success-left (Late c) h = success-as c h
+  success-left (Forward c) h = success-as c h
 
 eps-carries : (x : Context) (m out : List ℕ) (o : Opening)
     → let w = left epsOpenValues eps.Refused (epsAs x m out) (λ c. drop 6 m) (eps-answering x m out) x epsPlace out o .values in w .number ≡ 8 → w .carried ≡ 12
@@ -317,30 +361,44 @@ eps-carries x m out (Forward c) h = go (notEps (drop 6 m)) h
     go false e = absurd (omega arith)
 
 module _ (x : Context) where
-  opens-5gs : (d : Direction) (k : Connection) (m out : List ℕ)
-      → let o = gives (open5gs d k m out) x in Opened o → HandsOver x (placeOf d k) (plain5gs x d k m) out o
-  opens-5gs d k m out h =
+  opens-5gs : (d : Direction) (k : Connection) (m out out2 : List ℕ)
+      → let o = gives (open5gs d k m out out2) x in Opened o → HandsOver x (placeOf d k) (plain5gs x d k m) out o
+  opens-5gs d k m out out2 h =
       let b = bearerNo k in let f = directionNo d in let p = placeOf d k in
-      let e = open-left x d k m out (opened-passed (open5gs d k m out) x h) in
+      let e = open-left x d k m out out2 (opened-passed (open5gs d k m out out2) x h) in
       rw e (hands openValues open′.Refused (openedAs x p b f m out) (plain x p b f m out) (open-answering x p b f m out) (λ n. refl) x p out (found x p b f m out)
       (subst Opened e h))
+
+  -- a success carries none
+  pub carries-none : (d : Direction) (k : Connection) (m out out2 : List ℕ)
+      → let o = gives (open5gs d k m out out2) x in o .values .number ≡ 0 → o .values .carried ≡ 0
+  carries-none d k m out out2 h =
+      let b = bearerNo k in let f = directionNo d in let p = placeOf d k in
+      let e = open-left x d k m out out2 (opened-passed (open5gs d k m out out2) x (inl h)) in
+      rw e (success-left x p b f m out (found x p b f m out) (rw e at h))
 
   pub demand1-open : Demand1Open x
   demand1-open =
       record {
         opens = opens-5gs;
-        tells = λ d k m out h.
+        tells = λ d k m out out2 h.
             let b = bearerNo k in let f = directionNo d in let p = placeOf d k in
-            let e = open-left x d k m out (opened-passed (open5gs d k m out) x h) in
+            let e = open-left x d k m out out2 (opened-passed (open5gs d k m out out2) x h) in
             rw e (tells-left x p b f m out (found x p b f m out) (subst Opened e h));
-        wrote = λ d k m out h.
+        wrote = λ d k m out out2 h.
             let b = bearerNo k in let f = directionNo d in
-            let c = gives (open5gs d k m out) x .values .count in
-            opens-5gs d k m out h .wrote ∙ payload-length (x .core) c b f (drop 7 m) (ciphers (typeOf m)) ∙ length-drop 7 m;
-        carries = λ d k m out h.
+            let c = gives (open5gs d k m out out2) x .values .count in
+            opens-5gs d k m out out2 h .wrote ∙ payload-length (x .core) c b f (drop 7 m) (ciphers (typeOf m)) ∙ length-drop 7 m;
+        carries = λ d k m out out2 h.
             let b = bearerNo k in let f = directionNo d in let p = placeOf d k in
-            let e = open-left x d k m out (opened-passed (open5gs d k m out) x (inr h)) in
+            let e = open-left x d k m out out2 (opened-passed (open5gs d k m out out2) x (inr h)) in
             rw e (carries-left x p b f m out (found x p b f m out) (rw e at h));
+        inside = λ d k m out out2 h.
+            let b = bearerNo k in let f = directionNo d in let p = placeOf d k in
+            let e = opened-passed (open5gs d k m out out2) x h in
+            let u = opens-5gs d k m out out2 h .uses in
+            rw (open-left x d k m out out2 e, second-left x d k m out out2 e)
+            (told-second x p b f m out out2 (found x p b f m out) (rw (open-left x d k m out out2 e) at u));
         opens-eps = λ m out h.
             let e = eps-left x m out (opened-passed (openEps m out) x h) in
             rw e (hands epsOpenValues eps.Refused (epsAs x m out) (λ c. drop 6 m) (eps-answering x m out) (λ n. refl) x epsPlace out (epsFound x m out) (subst Opened e h));

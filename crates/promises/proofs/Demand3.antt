@@ -32,7 +32,7 @@ use Rattle.promise.specs.Kept.{Begins as BeginsAt}
 use Rattle.promise.proofs.Acts.{same-keys}
 use Rattle.promise.proofs.Kept.{kept}
 use Rattle.promise.proofs.Messages.{opens}
-use Rattle.promises.specs.Calls.{Call, setWindow, reselect, seal5gs, sealOpaque, open5gs, sealEps, openEps, makeN1ToS1, verifyN1ToS1, makeS1ToN1, verifyS1ToN1, Outcome, gives, placeIn, usedBy, contextAfter, countsUsed}
+use Rattle.promises.specs.Calls.{Call, setWindow, reselect, seal5gs, sealOpaque, sealInitial, open5gs, sealEps, openEps, makeN1ToS1, verifyN1ToS1, makeS1ToN1, verifyS1ToN1, Outcome, gives, placeIn, usedBy, contextAfter, countsUsed}
 use Rattle.promises.specs.Words.{SameKeys, recordOf, Ahead, Succeeds, Uses, TakenAs}
 use Rattle.promises.specs.Demand3.{Fresh, Reselected, Begins, fresh, reselected, PassedOver, NeverToNull, NeverReselected, InsideSince, StillOpen, Due, Opens, Demand3, Keeps}
 use Rattle.promises.proofs.Shapes.{Reselects, acts}
@@ -71,7 +71,8 @@ agrees (reselect i c ik ck) x never = go (eqb i 0) refl
     go false e = (refl, refl)
 agrees (seal5gs t d k inner out) x never = (refl, refl)
 agrees (sealOpaque t d k inner out) x never = (refl, refl)
-agrees (open5gs d k m out) x never = (refl, refl)
+agrees (sealInitial k w out) x never = (refl, refl)
+agrees (open5gs d k m out out2) x never = (refl, refl)
 agrees (sealEps inner out) x never = (refl, refl)
 agrees (openEps m out) x never = (refl, refl)
 agrees makeN1ToS1 x never = (refl, refl)
@@ -163,6 +164,10 @@ module _ (x : Context) (start : Beginning x) where
       still (inl s) never = s
       still (inr r) never = absurd (never (r .integrity) (r .ciphering) (r .integrityKey) (r .cipheringKey) (r .is) tt (r .succeeds))
 
+  uplink : (d : Direction) → directionNo d ≡ 0 → d ≡ Uplink
+  uplink Uplink e = refl
+  uplink Downlink e = absurd (omega arith)
+
   demand : (ks : List Call) → NeverToNull gives x ks → Demand3 gives x ks
   demand ks h =
       let now = contextAfter gives x ks in
@@ -172,15 +177,15 @@ module _ (x : Context) (start : Beginning x) where
             let p = placeOf d k in
             subst NoneTwice (sym (counts-same x p ks h)) (kept Context Call guardedMachine words Guarded keeping p x (begins p (place-there d k)) ks .1 .once);
         keys = keys-now ks h;
-        opens = λ d k y t c inner out same from to count some low room.
+        opens = λ d k y t c inner out out2 same from to count some low room room2.
             let p = placeOf d k in
-            let o = opens Context Call guardedMachine words Guarded messages keeping goes x ks (fiveGs (now .core) d k t inner out) c (begins p (place-there d k))
-            record { same = same-there; type = (from, to); count = count; some = some; low = low; room = room } in
+            let o = opens Context Call guardedMachine words Guarded messages keeping goes x ks (fiveGs (now .core) d k t inner out out2) c (begins p (place-there d k))
+            record { same = same-there; type = (from, to); count = count; some = some; low = low; room = room; room2 = λ e f. room2 e (uplink d f) } in
             rw (envelope-same (now .core) y c (bearerNo k) (directionNo d) same t inner)
-            (opens-same x p ks h _ (open5gs d k (envelope (now .core) t c (bearerNo k) (directionNo d) inner) out) c inner out (o .exactly refl) (o .exception refl));
+            (opens-same x p ks h _ (open5gs d k (envelope (now .core) t c (bearerNo k) (directionNo d) inner) out out2) c inner out (o .exactly refl) (o .exception refl));
         opens-eps = λ y c inner out same count some low room.
             let o = opens Context Call guardedMachine words Guarded messages keeping goes x ks (eps (now .core) inner out) c (begins epsPlace (omega arith))
-            record { same = same-there; type = tt; count = count; some = some; low = low; room = room } in
+            record { same = same-there; type = tt; count = count; some = some; low = low; room = room; room2 = tt } in
             rw (eps-same (now .core) y c same inner)
             (opens-same x epsPlace ks h _ (openEps (epsMessage (now .core) c inner) out) c inner out (o .exactly refl) (o .exception refl));
       }

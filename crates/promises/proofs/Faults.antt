@@ -17,10 +17,11 @@ use Rattle.nas_core.specs.Keyed.{wraps, awayFromNull}
 use Rattle.nas_core.specs.Refusals.{unbuilt, coreRefusals, coreFault}
 use Rattle.nas_core.specs.Verify.{fits, verifyOf}
 use Rattle.nas_5gs.specs.declared.Context.{Context}
+use Rattle.nas_5gs.specs.declared.Direction.the-variants.{Uplink}
 use Rattle.nas_5gs.specs.Places.{directionNo, bearerNo, placeOf, four, recordAt, nextAt, anyOver, contextRefusals, faultOf}
 use Rattle.nas_5gs.specs.Eps.{epsPlace, epsBearer, epsDirection}
 use Rattle.nas_5gs.specs.Containers.{containerPlace}
-use Rattle.promises.specs.Calls.{Call, setWindow, reselect, seal5gs, sealOpaque, open5gs, sealEps, openEps, makeN1ToS1, verifyN1ToS1, makeS1ToN1, verifyS1ToN1, gives}
+use Rattle.promises.specs.Calls.{Call, setWindow, reselect, seal5gs, sealOpaque, sealInitial, open5gs, sealEps, openEps, makeN1ToS1, verifyN1ToS1, makeS1ToN1, verifyS1ToN1, gives}
 use Rattle.promises.specs.Words.{SameKeys}
 use Rattle.promises.proofs.Shapes.{refusalOf, passing, does, Reselects, acts}
 use Rattle.promise.specs.Limits.{Bounded}
@@ -83,7 +84,8 @@ passing-bounded (setWindow n) x e h = ltb-false 64 n (off 14 (ltb 64 n) (omega a
 passing-bounded (reselect i c ik ck) x e h = closing-bounded (awayFromNull (x .core .integrity) i)
 passing-bounded (seal5gs t d k inner out) x e h = next-bounded (wraps (x .core)) (nextAt x (placeOf d k)) h
 passing-bounded (sealOpaque t d k inner out) x e h = next-bounded (wraps (x .core)) (nextAt x (placeOf d k)) h
-passing-bounded (open5gs d k m out) x e h = verify-bounded x (placeOf d k) (bearerNo k) (directionNo d) 2 m
+passing-bounded (sealInitial k w out) x e h = next-bounded (wraps (x .core)) (nextAt x (placeOf Uplink k)) h
+passing-bounded (open5gs d k m out out2) x e h = verify-bounded x (placeOf d k) (bearerNo k) (directionNo d) 2 m
 passing-bounded (sealEps inner out) x e h = next-bounded (wraps (x .core)) (nextAt x epsPlace) h
 passing-bounded (openEps m out) x e h = verify-bounded x epsPlace epsBearer epsDirection 1 m
 passing-bounded makeN1ToS1 x e h = next-bounded (wraps (x .core)) (nextAt x containerPlace) h

@@ -16,6 +16,7 @@ use Rattle.count.specs.Run.{State, Act, stay, uses, resize, close, actOf}
 use Rattle.count.proofs.Lifting.{others}
 use Rattle.nas_core.specs.Keyed.{wraps}
 use Rattle.nas_5gs.specs.declared.Context.{Context}
+use Rattle.nas_5gs.specs.declared.Direction.the-variants.{Uplink}
 use Rattle.nas_5gs.specs.declared.Direction.the-variants.{Uplink, Downlink}
 use Rattle.nas_5gs.specs.declared.Connection.the-variants.{ThreeGpp, Non3Gpp}
 use Rattle.nas_5gs.specs.declared.OpenAnswer.the-variants as open′
@@ -24,14 +25,16 @@ use Rattle.nas_5gs.specs.declared.VerifyAnswer.the-variants as verify
 use Rattle.nas_5gs.specs.Places.{directionNo, bearerNo, placeOf, recordAt, faultOf}
 use Rattle.nas_5gs.specs.Leaves.{leaves, over, useNext, received, Values, useValues, openValues, epsOpenValues, verifyValues}
 use Rattle.nas_5gs.specs.Envelope.{envelope}
+use Rattle.envelope.specs.Initial.{initialEnvelope, beside}
 use Rattle.nas_5gs.specs.Seal.{sealRefusal, opaqueRefusal}
+use Rattle.nas_5gs.specs.Initial.{initialRefusal}
 use Rattle.nas_5gs.specs.Open.{openRefusal, opened, handed}
 use Rattle.nas_5gs.specs.Eps.{epsPlace, epsMessage, sealEpsRefusal, openEpsRefusal, epsOpened, epsHanded}
 use Rattle.nas_5gs.specs.Containers.{containerPlace, s1ToN1, s1ToN1Refusal, verifyS1ToN1Refusal}
-use Rattle.promises.specs.Calls.{Call, setWindow, reselect, seal5gs, sealOpaque, open5gs, sealEps, openEps, makeN1ToS1, verifyN1ToS1, makeS1ToN1, verifyS1ToN1, Outcome, outcome, gives, lent, placeIn, contextAfter}
+use Rattle.promises.specs.Calls.{Call, setWindow, reselect, seal5gs, sealOpaque, sealInitial, open5gs, sealEps, openEps, makeN1ToS1, verifyN1ToS1, makeS1ToN1, verifyS1ToN1, Outcome, outcome, gives, second, lent, placeIn, contextAfter}
 use Rattle.promises.specs.Words.{SameKeys, recordOf}
 use Rattle.promises.specs.Isolation.{Elsewhere, Apart, Isolation}
-use Rattle.promises.proofs.Shapes.{refusalOf, passing, does, Reselects, acts, found, plain, openedAs, epsFound, epsAs, octetFound, octetRefused, octetAs, octetUsed}
+use Rattle.promises.proofs.Shapes.{refusalOf, passing, does, Reselects, acts, found, inside, second-open, plain, openedAs, epsFound, epsAs, octetFound, octetRefused, octetAs, octetUsed}
 use Rattle.promises.proofs.Soundness.{machine, Four, acting, if-passed, stays-four}
 use Rattle.promises.proofs.Passing.{passes, alone, sends, gives-is, gives-refused}
 use Rattle.promises.proofs.Numbers.{fault-first}
@@ -55,7 +58,8 @@ passing-quiet (setWindow n) x h = absurd (omega arith)
 passing-quiet (reselect i c ik ck) x h = absurd (omega arith)
 passing-quiet (seal5gs t d k inner out) x h = tt
 passing-quiet (sealOpaque t d k inner out) x h = tt
-passing-quiet (open5gs d k m out) x h = found-quiet (wraps (x .core)) (found x (placeOf d k) (bearerNo k) (directionNo d) m out)
+passing-quiet (sealInitial k w out) x h = tt
+passing-quiet (open5gs d k m out out2) x h = found-quiet (wraps (x .core)) (found x (placeOf d k) (bearerNo k) (directionNo d) m out)
 passing-quiet (sealEps inner out) x h = tt
 passing-quiet (openEps m out) x h = found-quiet (wraps (x .core)) (epsFound x m out)
 passing-quiet makeN1ToS1 x h = tt
@@ -112,12 +116,13 @@ module _ (x : Context) (l : List Record) where
 
   module _ (fault : faultOf y ≡ faultOf x) where
     same-refusal : (k : Call) → recordAt y (placeIn k) ≡ recordAt x (placeIn k) → refusalOf k y ≡ refusalOf k x
-    unfolding sealRefusal opaqueRefusal openRefusal sealEpsRefusal openEpsRefusal s1ToN1Refusal verifyS1ToN1Refusal
+    unfolding sealRefusal opaqueRefusal initialRefusal openRefusal sealEpsRefusal openEpsRefusal s1ToN1Refusal verifyS1ToN1Refusal
     same-refusal (setWindow n) e = rw fault
     same-refusal (reselect i c ik ck) e = rw fault
     same-refusal (seal5gs t d k inner out) e = rw (fault, e)
     same-refusal (sealOpaque t d k inner out) e = rw (fault, e)
-    same-refusal (open5gs d k m out) e = rw fault
+    same-refusal (sealInitial k w out) e = rw (fault, e)
+    same-refusal (open5gs d k m out out2) e = rw fault
     same-refusal (sealEps inner out) e = rw (fault, e)
     same-refusal (openEps m out) e = rw fault
     same-refusal makeN1ToS1 e = rw (fault, e)
@@ -138,14 +143,15 @@ module _ (x : Context) (l : List Record) where
     received-same v p n′ y′ plain-of out (Forward c) = (refl, refl)
 
     same-passes : (k : Call) → placeIn k < 4 → recordAt y (placeIn k) ≡ recordAt x (placeIn k) → Same (passes k y) (passes k x)
-    unfolding opened handed epsOpened epsHanded
+    unfolding epsOpened epsHanded
     same-passes (setWindow n) on e = absurd (omega arith)
     same-passes (reselect i c ik ck) on e = absurd (omega arith)
     same-passes (seal5gs t d k inner out) on e =
         sends-same (placeOf d k) (λ c. envelope (x .core) t c (bearerNo k) (directionNo d) inner) out e
     same-passes (sealOpaque t d k inner out) on e =
         sends-same (placeOf d k) (λ c. envelope (x .core) t c (bearerNo k) (directionNo d) inner) out e
-    same-passes (open5gs d k m out) on e =
+    same-passes (sealInitial k w out) on e = sends-same (placeOf Uplink k) (λ c. initialEnvelope (x .core) c (bearerNo k) w) out e
+    same-passes (open5gs d k m out out2) on e =
         let b = bearerNo k in let f = directionNo d in let p = placeOf d k in
         rw e (received-same openValues p open′.Refused (openedAs x p b f m out) (plain x p b f m out) out (found x p b f m out))
     same-passes (sealEps inner out) on e = sends-same epsPlace (λ c. epsMessage (x .core) c inner) out e
@@ -175,17 +181,47 @@ module _ (x : Context) (l : List Record) where
         go true = same-passes k on e
         go false = (refl, refl)
 
+    seconds-same : (p : ℕ) (out2 : List ℕ) (q : ℕ → List ℕ) (o : Opening)
+        → received y p (λ n. out2) (λ c z. over (q c) out2) o ≡ received x p (λ n. out2) (λ c z. over (q c) out2) o
+    seconds-same p out2 q None = refl
+    seconds-same p out2 q Wrong = refl
+    seconds-same p out2 q (Late c) = refl
+    seconds-same p out2 q (Forward c) = refl
+
+    same-second : (k : Call) → recordAt y (placeIn k) ≡ recordAt x (placeIn k) → second k y ≡ second k x
+    same-second (setWindow n) e = refl
+    same-second (reselect i c ik ck) e = refl
+    same-second (seal5gs t d k inner out) e = refl
+    same-second (sealOpaque t d k inner out) e = refl
+    same-second (sealInitial k w out) e = refl
+    same-second (open5gs d k m out out2) e =
+        let b = bearerNo k in let f = directionNo d in let p = placeOf d k in
+        rw (
+          second-open y d k m out out2,
+          second-open x d k m out out2,
+          same-refusal (open5gs d k m out out2) e,
+          e,
+          seconds-same p out2 (λ c. beside (inside x p b f m out c)) (found x p b f m out),
+        )
+    same-second (sealEps inner out) e = refl
+    same-second (openEps m out) e = refl
+    same-second makeN1ToS1 e = refl
+    same-second (verifyN1ToS1 s) e = refl
+    same-second (makeS1ToN1 ncc ngksi out) e = refl
+    same-second (verifyS1ToN1 v) e = refl
+
 -- contexts that a record at p cannot tell apart
 record Alike (p : ℕ) (x z : Context) : Type 0 where
   core : z .core ≡ x .core
   at : recordAt z p ≡ recordAt x p
   fault : faultOf z ≡ faultOf x
 
-alike-gives : (k : Call) (x z : Context) → placeIn k < 4 → Alike (placeIn k) x z → Same (gives k z) (gives k x)
+alike-gives : (k : Call) (x z : Context) → placeIn k < 4 → Alike (placeIn k) x z → Same (gives k z) (gives k x) × (second k z ≡ second k x)
 alike-gives k x z on a =
     let q : z ≡ record { core = x .core; records = z .records } = λ i. record { core = a .core i; records = z .records } in
     let f : faultOf (record { core = x .core; records = z .records }) ≡ faultOf x = ap faultOf (sym q) ∙ a .fault in
-    subst (λ (w : Context). Same (gives k w) (gives k x)) (sym q) (same-gives x (z .records) f k on (a .at))
+    subst (λ (w : Context). Same (gives k w) (gives k x) × (second k w ≡ second k x)) (sym q)
+    (same-gives x (z .records) f k on (a .at), same-second x (z .records) f k (a .at))
 
 module _ (x : Context) (four : Four x) (p : ℕ) (there : p < 4) where
   four-after : (ks : List Call) → Four (contextAfter gives x ks)
@@ -208,9 +244,9 @@ pub isolation : Isolation
 isolation x four p there ks h =
     let z = contextAfter gives x ks in
     let a = alike x four p there ks h in
-    let same : (k : Call) → placeIn k ≡ p → Same (gives k z) (gives k x) =
+    let same : (k : Call) → placeIn k ≡ p → Same (gives k z) (gives k x) × (second k z ≡ second k x) =
     λ k e. alike-gives k x z (omega arith) (subst (λ (q : ℕ). Alike q x z) (sym e) a) in
-    record { left = a .at; core = a .core; answers = λ k e. same k e .0; writes = λ k e. same k e .1 }
+    record { left = a .at; core = a .core; answers = λ k e. same k e .0 .0; writes = λ k e. same k e .0 .1; writes-second = λ k e. same k e .1 }
 
 pub apart : Apart
 apart Uplink Uplink ThreeGpp ThreeGpp e = (refl, refl)

@@ -6,6 +6,7 @@ pub mod Numbers
 pub mod Soundness
 pub mod Opening
 pub mod Taking
+pub mod Seconds
 pub mod Faults
 pub mod Messages
 pub mod Demand1

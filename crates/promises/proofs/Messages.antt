@@ -20,14 +20,14 @@ use Rattle.nas_5gs.specs.declared.Direction.{Direction}
 use Rattle.nas_5gs.specs.declared.Connection.{Connection}
 use Rattle.nas_5gs.specs.Places.{directionNo, bearerNo, placeOf, recordAt, faultOf}
 use Rattle.nas_5gs.specs.Envelope.{ciphers, envelope}
-use Rattle.nas_5gs.specs.Open.{typeOf, openRefusal}
+use Rattle.nas_5gs.specs.Open.{typeOf, openRefusal, roomFor}
 use Rattle.nas_5gs.specs.Eps.{epsPlace, epsBearer, epsDirection, epsMessage, openEpsRefusal}
 use Rattle.promise.specs.Words.{Words}
 use Rattle.promise.specs.Kept.{Keeping}
 use Rattle.promise.specs.Messages.{Kind, ByRule, AllByRule}
 use Rattle.promise.proofs.Acts.{unless}
 use Rattle.promise.proofs.Answers.{named, names, takes-taken}
-use Rattle.promises.specs.Calls.{Call, setWindow, reselect, seal5gs, sealOpaque, open5gs, sealEps, openEps, makeN1ToS1, verifyN1ToS1, makeS1ToN1, verifyS1ToN1, Outcome, gives, placeIn, contextAfter, countsUsed, usedBy}
+use Rattle.promises.specs.Calls.{Call, setWindow, reselect, seal5gs, sealOpaque, sealInitial, open5gs, sealEps, openEps, makeN1ToS1, verifyN1ToS1, makeS1ToN1, verifyS1ToN1, Outcome, gives, placeIn, contextAfter, countsUsed, usedBy}
 use Rattle.promises.specs.Words.{SameKeys, recordOf, Uses, TakenAs}
 use Rattle.promises.specs.Demand3.{InsideSince}
 use Rattle.promises.proofs.Shapes.{holding, does, Reselects, acts, found, epsFound}
@@ -35,7 +35,7 @@ use Rattle.promises.proofs.Soundness.{Good, does-valid, stays-four}
 use Rattle.promises.proofs.Passing.{alone}
 use Rattle.promises.proofs.Faults.{Faultless, stays-faultless}
 use Rattle.promises.proofs.Opening.{Sealed, envelope-sealed, eps-sealed, envelope-same, eps-same}
-use Rattle.promises.proofs.Taking.{no-fault, open-answering, eps-answering, open-left, eps-left, open-passes, eps-passes, envelope-type, envelope-first, envelope-long, envelope-back, eps-first, verify-is}
+use Rattle.promises.proofs.Taking.{no-fault, open-answering, eps-answering, open-left, eps-left, has-room, open-passes, eps-passes, envelope-type, envelope-first, envelope-long, envelope-back, eps-first, verify-is}
 
 -- The context that refuses every reselection to null. What is kept holds of it over any calls, and ours is it as long as no reselection to null is accepted.
 abbrev pub toNull : Call → Bool
@@ -43,7 +43,8 @@ toNull (setWindow n) = false
 toNull (reselect i c ik ck) = eqb i 0
 toNull (seal5gs t d k inner out) = false
 toNull (sealOpaque t d k inner out) = false
-toNull (open5gs d k m out) = false
+toNull (sealInitial k w out) = false
+toNull (open5gs d k m out out2) = false
 toNull (sealEps inner out) = false
 toNull (openEps m out) = false
 toNull makeN1ToS1 = false
@@ -132,42 +133,46 @@ keeping =
 pub fault-none : (x : Context) → Guarded x → faultOf x ≡ 0
 fault-none x g = no-fault x (g .ok .built) (g .ok .small) (g .ok .counts)
 
--- A message but for its COUNT: the sealer's keys and codes, where it goes, the header type, the inner octets, and the opener's output.
+-- A message but for its COUNT: the sealer's keys and codes, where it goes, the header type, the inner octets, and the opener's outputs.
 pub data Message : Type 0 where
-  fiveGs : Core → Direction → Connection → ℕ → List ℕ → List ℕ → Message
+  fiveGs : Core → Direction → Connection → ℕ → List ℕ → List ℕ → List ℕ → Message
   eps : Core → List ℕ → List ℕ → Message
 
 abbrev pub messagePlace : Message → ℕ
-messagePlace (fiveGs y d k t inner out) = placeOf d k
+messagePlace (fiveGs y d k t inner out out2) = placeOf d k
 messagePlace (eps y inner out) = epsPlace
 
 abbrev pub octetsFor : Message → ℕ → List ℕ
-octetsFor (fiveGs y d k t inner out) c = envelope y t c (bearerNo k) (directionNo d) inner
+octetsFor (fiveGs y d k t inner out out2) c = envelope y t c (bearerNo k) (directionNo d) inner
 octetsFor (eps y inner out) c = epsMessage y c inner
 
 abbrev pub fitsAs : Message → ℕ → ℕ → Bool
-fitsAs (fiveGs y d k t inner out) c c′ = fits y c′ (bearerNo k) (directionNo d) 2 (envelope y t c (bearerNo k) (directionNo d) inner)
+fitsAs (fiveGs y d k t inner out out2) c c′ = fits y c′ (bearerNo k) (directionNo d) 2 (envelope y t c (bearerNo k) (directionNo d) inner)
 fitsAs (eps y inner out) c c′ = fits y c′ epsBearer epsDirection 1 (epsMessage y c inner)
 
 abbrev pub openCall : Message → ℕ → Call
-openCall (fiveGs y d k t inner out) c = open5gs d k (envelope y t c (bearerNo k) (directionNo d) inner) out
+openCall (fiveGs y d k t inner out out2) c = open5gs d k (envelope y t c (bearerNo k) (directionNo d) inner) out out2
 openCall (eps y inner out) c = openEps (epsMessage y c inner) out
 
 abbrev pub keysOf : Message → Core
-keysOf (fiveGs y d k t inner out) = y
+keysOf (fiveGs y d k t inner out out2) = y
 keysOf (eps y inner out) = y
 
 abbrev pub innerOf : Message → List ℕ
-innerOf (fiveGs y d k t inner out) = inner
+innerOf (fiveGs y d k t inner out out2) = inner
 innerOf (eps y inner out) = inner
 
 abbrev pub roomOf : Message → List ℕ
-roomOf (fiveGs y d k t inner out) = out
+roomOf (fiveGs y d k t inner out out2) = out
 roomOf (eps y inner out) = out
 
 abbrev pub TypeRight : Message → Type 0
-TypeRight (fiveGs y d k t inner out) = (1 ≤ t) × (t ≤ 4)
+TypeRight (fiveGs y d k t inner out out2) = (1 ≤ t) × (t ≤ 4)
 TypeRight (eps y inner out) = Unit {0}
+
+abbrev pub SecondRoom : Message → Type 0
+SecondRoom (fiveGs y d k t inner out out2) = t ≡ 1 → directionNo d ≡ 0 → length inner ≤ length out2
+SecondRoom (eps y inner out) = Unit {0}
 
 pub record Ready (x : Context) (m : Message) (c : ℕ) : Type 0 where
   pub same : SameKeys (keysOf m) (x .core)
@@ -176,6 +181,7 @@ pub record Ready (x : Context) (m : Message) (c : ℕ) : Type 0 where
   pub some : 1 ≤ length (innerOf m)
   pub low : length (innerOf m) ≤ limit
   pub room : length (innerOf m) ≤ length (roomOf m)
+  pub room2 : SecondRoom m
 
 abbrev pub messages : Kind guardedMachine
 messages =
@@ -215,9 +221,9 @@ module _ (x : Context) (g : Guarded x) (c : ℕ) where
   acts-as : (o o′ : Opening) → o ≡ o′ → actOf (wraps (x .core)) o ≡ actOf false o′
   acts-as o o′ e = rw (g .good .guarded, e) refl
 
-  goes-5gs : (y : Core) (d : Direction) (k : Connection) (t : ℕ) (inner out : List ℕ)
-      → Ready x (fiveGs y d k t inner out) c → ByRule messages x (fiveGs y d k t inner out) c
-  goes-5gs y d k t inner out r =
+  goes-5gs : (y : Core) (d : Direction) (k : Connection) (t : ℕ) (inner out out2 : List ℕ)
+      → Ready x (fiveGs y d k t inner out out2) c → ByRule messages x (fiveGs y d k t inner out out2) c
+  goes-5gs y d k t inner out out2 r =
       let b = bearerNo k in
       let e = directionNo d in
       let p = placeOf d k in
@@ -227,8 +233,11 @@ module _ (x : Context) (g : Guarded x) (c : ℕ) where
       let q : m ≡ envelope (x .core) t c b e inner = envelope-same (x .core) y c b e (r .same) t inner in
       let s : Sealed (x .core) c b e 2 m (payload (x .core) (ciphers t) c b e inner) =
       subst (λ (m : List ℕ). Sealed (x .core) c b e 2 m (payload (x .core) (ciphers t) c b e inner)) (sym q) (envelope-sealed (x .core) c inner b e t) in
-      let pass = open-passes x (fault-none x g) m (length inner) (length out) (r .low) (r .room) t (envelope-long y t c b e inner) (r .some)
-      (envelope-first y t c b e inner) (envelope-type y t c b e inner from to) from to in
+      let type = envelope-type y t c b e inner from to in
+      let room = roomFor (typeOf m) e (length out) (length out2) in
+      let pass = open-passes x (fault-none x g) m (length inner) room (r .low)
+      (has-room (typeOf m) e (length inner) (length out) (length out2) (r .room) (λ h. r .room2 (sym type ∙ h))) t (envelope-long y t c b e inner) (r .some)
+      (envelope-first y t c b e inner) type from to in
       let a = open-answering x p b e m out in
       let f = found-is y (r .same) p b e 2 m _ s in
       let plain-is : payload (x .core) (ciphers (typeOf m)) c b e (drop 7 m) ≡ inner =
@@ -238,9 +247,9 @@ module _ (x : Context) (g : Guarded x) (c : ℕ) where
         small = λ l. omega (arith, g .ok .small);
         own = envelope-sealed y c inner b e t .own;
         place = refl;
-        does = if-none (openRefusal x m (length out)) (actOf (wraps (x .core)) (found x p b e m out)) pass ∙ acts-as _ _ f;
-        taken = rw (open-left x d k m out pass, ← f) (takes-taken holding _ _ _ _ a x p out c inner plain-is _);
-        names = λ c′. rw (open-left x d k m out pass, ← f) (named holding _ _ _ _ a x p out _ c′, λ u. names holding _ _ _ _ a x p out _ c′ (u .0) (u .1));
+        does = if-none (openRefusal x m room) (actOf (wraps (x .core)) (found x p b e m out)) pass ∙ acts-as _ _ f;
+        taken = rw (open-left x d k m out out2 pass, ← f) (takes-taken holding _ _ _ _ a x p out c inner plain-is _);
+        names = λ c′. rw (open-left x d k m out out2 pass, ← f) (named holding _ _ _ _ a x p out _ c′, λ u. names holding _ _ _ _ a x p out _ c′ (u .0) (u .1));
       }
 
   goes-eps : (y : Core) (inner out : List ℕ) → Ready x (eps y inner out) c → ByRule messages x (eps y inner out) c
@@ -263,5 +272,5 @@ module _ (x : Context) (g : Guarded x) (c : ℕ) where
       }
 
 pub goes : AllByRule messages Guarded
-goes x (fiveGs y d k t inner out) c g r = goes-5gs x g c y d k t inner out r
+goes x (fiveGs y d k t inner out out2) c g r = goes-5gs x g c y d k t inner out out2 r
 goes x (eps y inner out) c g r = goes-eps x g c y inner out r

@@ -19,13 +19,14 @@ use Rattle.algorithms.specs.Codes.{codeOf}
 use Rattle.nas_core.specs.Keyed.{wraps, codeBy}
 use Rattle.nas_core.specs.Verify.{fits, verifyOf}
 use Rattle.nas_5gs.specs.declared.Context.{Context}
+use Rattle.nas_5gs.specs.declared.Direction.the-variants.{Uplink}
 use Rattle.nas_5gs.specs.declared.OpenAnswer.the-variants as open′
 use Rattle.nas_5gs.specs.declared.EpsOpenAnswer.the-variants as eps
 use Rattle.nas_5gs.specs.Places.{directionNo, bearerNo, placeOf, recordAt, nextAt}
 use Rattle.nas_5gs.specs.Leaves.{openValues, epsOpenValues}
 use Rattle.nas_5gs.specs.Eps.{epsPlace, epsBearer, epsDirection}
 use Rattle.nas_5gs.specs.Containers.{containerPlace, containerBearer, containerDirection, s1Count}
-use Rattle.promises.specs.Calls.{Call, setWindow, reselect, seal5gs, sealOpaque, open5gs, sealEps, openEps, makeN1ToS1, verifyN1ToS1, makeS1ToN1, verifyS1ToN1, gives, placeIn}
+use Rattle.promises.specs.Calls.{Call, setWindow, reselect, seal5gs, sealOpaque, sealInitial, open5gs, sealEps, openEps, makeN1ToS1, verifyN1ToS1, makeS1ToN1, verifyS1ToN1, gives, placeIn}
 use Rattle.promises.specs.Words.{recordOf, Uses}
 use Rattle.promises.specs.Null.{NullHolds}
 use Rattle.promise.proofs.Answers.{named}
@@ -71,7 +72,8 @@ module _ (x : Context) (w : wraps (x .core) ≡ true) where
   passing-round (reselect i c ik ck) on = absurd (omega arith)
   passing-round (seal5gs t d k inner out) on = next-round (placeOf d k)
   passing-round (sealOpaque t d k inner out) on = next-round (placeOf d k)
-  passing-round (open5gs d k m out) on = verify-round (placeOf d k) (bearerNo k) (directionNo d) 2 m
+  passing-round (sealInitial k w out) on = next-round (placeOf Uplink k)
+  passing-round (open5gs d k m out out2) on = verify-round (placeOf d k) (bearerNo k) (directionNo d) 2 m
   passing-round (sealEps inner out) on = next-round epsPlace
   passing-round (openEps m out) on = verify-round epsPlace epsBearer epsDirection 1 m
   passing-round makeN1ToS1 on = next-round containerPlace
@@ -125,13 +127,13 @@ pub null-holds : NullHolds
 null-holds x w =
     record {
       code = code-zero x w;
-      passes = λ d k m out e h.
+      passes = λ d k m out out2 e h.
           let b = bearerNo k in let f = directionNo d in let p = placeOf d k in
-          rw (open-left x d k m out e)
+          rw (open-left x d k m out out2 e)
           (named holding openValues open′.Refused (openedAs x p b f m out) (plain x p b f m out) (open-answering x p b f m out) x p out (found x p b f m out)
           (candidate x w p b f 2 m) (inr (found-round x w p b f 2 m h)));
-      stays-exhausted = λ d k m out e h.
-          rw (open-left x d k m out e, found-none x w (placeOf d k) (bearerNo k) (directionNo d) 2 m h);
+      stays-exhausted = λ d k m out out2 e h.
+          rw (open-left x d k m out out2 e, found-none x w (placeOf d k) (bearerNo k) (directionNo d) 2 m h);
       passes-eps = λ m out e h.
           rw (eps-left x m out e)
           (named holding epsOpenValues eps.Refused (epsAs x m out) (λ c. drop 6 m) (eps-answering x m out) x epsPlace out (epsFound x m out)

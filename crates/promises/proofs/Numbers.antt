@@ -14,14 +14,20 @@ use Rattle.refusals.specs.Order.{_when_, first}
 use Rattle.nas_core.specs.Refusals.{limit, unbuilt, coreFault, sendRefusals, handRefusals}
 use Rattle.nas_core.specs.Verify.{fits}
 use Rattle.look.specs.Look.{notKnown, notTogether, wrongWay, lookRefusals, lookOf}
+use Rattle.initial.specs.Messages.{isInitial}
+use Rattle.initial.specs.Outer.{isHideable, outerLength}
+use Rattle.initial.specs.Inside.{Hidden}
+use Rattle.envelope.specs.Initial.{isRefused}
 use Rattle.nas_5gs.specs.declared.Context.{Context}
+use Rattle.nas_5gs.specs.declared.Direction.the-variants.{Uplink}
 use Rattle.nas_5gs.specs.Places.{directionNo, placeOf, four, nextAt, anyOver, faultOf}
 use Rattle.nas_5gs.specs.Envelope.{wrongType}
 use Rattle.nas_5gs.specs.Seal.{sealRefusals, sealRefusal, opaqueRefusals, opaqueRefusal}
-use Rattle.nas_5gs.specs.Open.{typeOf, openRefusals, openRefusal}
+use Rattle.nas_5gs.specs.Initial.{initialRefusals, initialRefusal}
+use Rattle.nas_5gs.specs.Open.{typeOf, openRefusals, openRefusal, roomFor, insideNumber}
 use Rattle.nas_5gs.specs.Eps.{epsPlace, notEps, sealEpsRefusals, sealEpsRefusal, openEpsRefusals, openEpsRefusal}
 use Rattle.nas_5gs.specs.Containers.{containerBearer, containerDirection, noneLeft, s1Count, s1ToN1Refusals, s1ToN1Refusal, otherAlgorithms, verifyS1ToN1Refusals, verifyS1ToN1Refusal}
-use Rattle.promises.specs.Calls.{Call, setWindow, reselect, seal5gs, sealOpaque, open5gs, sealEps, openEps, makeN1ToS1, verifyN1ToS1, makeS1ToN1, verifyS1ToN1}
+use Rattle.promises.specs.Calls.{Call, setWindow, reselect, seal5gs, sealOpaque, sealInitial, open5gs, sealEps, openEps, makeN1ToS1, verifyN1ToS1, makeS1ToN1, verifyS1ToN1}
 use Rattle.promises.specs.Demand1.{numbersOf}
 use Rattle.promises.proofs.Shapes.{refusalOf}
 
@@ -94,7 +100,8 @@ early (setWindow n) = 13 ∷ 14 ∷ 16 ∷ []
 early (reselect i c ik ck) = 13 ∷ 14 ∷ 16 ∷ []
 early (seal5gs t d k inner out) = 13 ∷ 14 ∷ 16 ∷ 9 ∷ 3 ∷ 10 ∷ 11 ∷ 4 ∷ 5 ∷ 6 ∷ []
 early (sealOpaque t d k inner out) = 13 ∷ 14 ∷ 16 ∷ 3 ∷ 4 ∷ 5 ∷ 6 ∷ []
-early (open5gs d k m out) = 13 ∷ 14 ∷ 16 ∷ 1 ∷ 2 ∷ 3 ∷ 4 ∷ 5 ∷ []
+early (sealInitial k w out) = 13 ∷ 14 ∷ 16 ∷ 9 ∷ 18 ∷ 4 ∷ 5 ∷ 6 ∷ []
+early (open5gs d k m out out2) = 13 ∷ 14 ∷ 16 ∷ 1 ∷ 2 ∷ 3 ∷ 4 ∷ 5 ∷ []
 early (sealEps inner out) = 13 ∷ 14 ∷ 16 ∷ 12 ∷ 4 ∷ 5 ∷ 6 ∷ []
 early (openEps m out) = 13 ∷ 14 ∷ 16 ∷ 1 ∷ 2 ∷ 4 ∷ 5 ∷ []
 early makeN1ToS1 = 13 ∷ 14 ∷ 16 ∷ 6 ∷ []
@@ -103,7 +110,7 @@ early (makeS1ToN1 ncc ngksi out) = 13 ∷ 14 ∷ 16 ∷ 5 ∷ 6 ∷ []
 early (verifyS1ToN1 v) = 13 ∷ 14 ∷ 16 ∷ 1 ∷ 4 ∷ 15 ∷ 6 ∷ 7 ∷ []
 
 pub refusal-early : (k : Call) (x : Context) → Among (early k) (refusalOf k x)
-unfolding sealRefusal opaqueRefusal openRefusal sealEpsRefusal openEpsRefusal s1ToN1Refusal verifyS1ToN1Refusal
+unfolding sealRefusal opaqueRefusal initialRefusal openRefusal sealEpsRefusal openEpsRefusal s1ToN1Refusal verifyS1ToN1Refusal
 refusal-early (setWindow n) x =
     let s = early (setWindow n) in
     first-among s (faultOf x ∷ 14 when (ltb 64 n) ∷ []) (fault-among s x refl refl refl & may s 14 (ltb 64 n) refl & none)
@@ -120,11 +127,17 @@ refusal-early (sealOpaque t d k inner out) x =
     let s = early (sealOpaque t d k inner out) in
     first-among s (opaqueRefusals x t (placeOf d k) inner (length out)) (
     fault-among s x refl refl refl & may s 3 (wrongType t) refl & send-each s 7 (length inner) (length out) (nextAt x (placeOf d k)) refl refl refl)
-refusal-early (open5gs d k m out) x =
-    let s = early (open5gs d k m out) in
-    first-among s (openRefusals x m (length out)) (
+refusal-early (sealInitial k w out) x =
+    let s = early (sealInitial k w out) in
+    first-among s (initialRefusals x (placeOf Uplink k) w (length out)) (
+    fault-among s x refl refl refl & may s 9 (not (isInitial w)) refl & may s 18 (not (isHideable w)) refl &
+    send-each s 7 (outerLength w) (length out) (nextAt x (placeOf Uplink k)) refl refl refl)
+refusal-early (open5gs d k m out out2) x =
+    let s = early (open5gs d k m out out2) in
+    let room = roomFor (typeOf m) (directionNo d) (length out) (length out2) in
+    first-among s (openRefusals x m room) (
     fault-among s x refl refl refl & may s 1 (ltb (length m) 7) refl & may s 2 (not (eqb (getD m 0 0) 0x7E)) refl & may s 3 (wrongType (typeOf m)) refl &
-    may s 1 (eqb (length m) 7) refl & hand-each s 7 (length m) (length out) refl refl)
+    may s 1 (eqb (length m) 7) refl & hand-each s 7 (length m) room refl refl)
 refusal-early (sealEps inner out) x =
     let s = early (sealEps inner out) in
     first-among s (sealEpsRefusals x inner (length out)) (
@@ -168,7 +181,8 @@ early-in (setWindow n) = (refl, refl)
 early-in (reselect i c ik ck) = (refl, refl)
 early-in (seal5gs t d k inner out) = (refl, refl)
 early-in (sealOpaque t d k inner out) = (refl, refl)
-early-in (open5gs d k m out) = (refl, refl)
+early-in (sealInitial k w out) = (refl, refl)
+early-in (open5gs d k m out out2) = (refl, refl)
 early-in (sealEps inner out) = (refl, refl)
 early-in (openEps m out) = (refl, refl)
 early-in makeN1ToS1 = (refl, refl)
@@ -193,12 +207,13 @@ module _ (k : Call) (x : Context) (refused : refusalOf k x ≡ 0 → ⊥) where
 
 -- a context's own refusal comes first
 pub fault-first : (k : Call) (x : Context) → (faultOf x ≡ 0 → ⊥) → refusalOf k x ≡ faultOf x
-unfolding sealRefusal opaqueRefusal openRefusal sealEpsRefusal openEpsRefusal s1ToN1Refusal verifyS1ToN1Refusal
+unfolding sealRefusal opaqueRefusal initialRefusal openRefusal sealEpsRefusal openEpsRefusal s1ToN1Refusal verifyS1ToN1Refusal
 fault-first (setWindow n) x f = rw (ne-eqb (faultOf x) 0 f)
 fault-first (reselect i c ik ck) x f = rw (ne-eqb (faultOf x) 0 f)
 fault-first (seal5gs t d k inner out) x f = rw (ne-eqb (faultOf x) 0 f)
 fault-first (sealOpaque t d k inner out) x f = rw (ne-eqb (faultOf x) 0 f)
-fault-first (open5gs d k m out) x f = rw (ne-eqb (faultOf x) 0 f)
+fault-first (sealInitial k w out) x f = rw (ne-eqb (faultOf x) 0 f)
+fault-first (open5gs d k m out out2) x f = rw (ne-eqb (faultOf x) 0 f)
 fault-first (sealEps inner out) x f = rw (ne-eqb (faultOf x) 0 f)
 fault-first (openEps m out) x f = rw (ne-eqb (faultOf x) 0 f)
 fault-first makeN1ToS1 x f = rw (ne-eqb (faultOf x) 0 f)
@@ -212,3 +227,13 @@ unfolding lookOf
 look-listed t d m =
     let s : List ℕ = 9 ∷ 10 ∷ 11 ∷ [] in
     first-among s (lookRefusals t d m) (may s 9 (notKnown m) refl & may s 10 (notTogether t m) refl & may s 11 (wrongWay d m) refl & none)
+
+pub carried-listed : (looked : ℕ) (h : Hidden) → Among (9 ∷ 10 ∷ 11 ∷ []) looked → Among (9 ∷ 10 ∷ 11 ∷ 18 ∷ []) (insideNumber looked h)
+unfolding insideNumber subset
+carried-listed looked h a =
+    let s : List ℕ = 9 ∷ 10 ∷ 11 ∷ 18 ∷ [] in
+    first-among s (looked ∷ 18 when isRefused h ∷ []) (wider a & may s 18 (isRefused h) refl & none)
+  where
+    wider : Among (9 ∷ 10 ∷ 11 ∷ []) looked → Among (9 ∷ 10 ∷ 11 ∷ 18 ∷ []) looked
+    wider (inl e) = inl e
+    wider (inr i) = inr (widen (9 ∷ 10 ∷ 11 ∷ []) (9 ∷ 10 ∷ 11 ∷ 18 ∷ []) refl looked i)

@@ -70,7 +70,7 @@ module _ (x y : Core) (c b d : ℕ) (k : SameKeys y x) where
   unfolding codeBy
   codes-same m = rw (k .integrity, k .integrity-key)
 
-  payloads-same : (t : Bool) (m : List ℕ) → payload y t c b d m ≡ payload x t c b d m
+  pub payloads-same : (t : Bool) (m : List ℕ) → payload y t c b d m ≡ payload x t c b d m
   unfolding payload
   payloads-same t m = rw (k .ciphering, k .ciphering-key)
 

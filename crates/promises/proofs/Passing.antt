@@ -8,7 +8,9 @@ use native.Mathlib.Omega.{arith}
 use borrow.Author.Tests.{eqb-true, eqb-false, eq-eqb, ne-eqb}
 use Rattle.aes.specs.Keys.{keyOf}
 use Rattle.refusals.specs.Order.{refusedOr}
+use Rattle.envelope.specs.Initial.{initialEnvelope}
 use Rattle.nas_5gs.specs.declared.Context.{Context}
+use Rattle.nas_5gs.specs.declared.Direction.the-variants.{Uplink}
 use Rattle.nas_5gs.specs.declared.ChangeAnswer.the-variants as change
 use Rattle.nas_5gs.specs.declared.UseAnswer.the-variants as use′
 use Rattle.nas_5gs.specs.declared.OpenAnswer.the-variants as open′
@@ -20,11 +22,11 @@ use Rattle.nas_5gs.specs.Leaves.{Leaves, leaves, useNext, received, Values, ref
 use Rattle.nas_5gs.specs.Changes.{coreWith, keptFor, reselectOf, resized, windowOf}
 use Rattle.nas_5gs.specs.Envelope.{envelope}
 use Rattle.nas_5gs.specs.Seal.{sent, sealOf, sealOpaqueOf}
-use Rattle.nas_5gs.specs.Open.{opened, openOf}
+use Rattle.nas_5gs.specs.Initial.{sentInitial, initialOf}
 use Rattle.nas_5gs.specs.Eps.{epsPlace, epsMessage, sealEpsOf, epsOpened, openEpsOf}
 use Rattle.nas_5gs.specs.Containers.{containerPlace, lastOctet, s1ToN1, n1ToS1Of, verifyN1ToS1Of, s1ToN1Of, verifyS1ToN1Of}
-use Rattle.promises.specs.Calls.{Call, setWindow, reselect, seal5gs, sealOpaque, open5gs, sealEps, openEps, makeN1ToS1, verifyN1ToS1, makeS1ToN1, verifyS1ToN1, Outcome, outcome, gives, lent}
-use Rattle.promises.proofs.Shapes.{refusalOf, octetFound, octetRefused, octetUsed}
+use Rattle.promises.specs.Calls.{Call, setWindow, reselect, seal5gs, sealOpaque, sealInitial, open5gs, sealEps, openEps, makeN1ToS1, verifyN1ToS1, makeS1ToN1, verifyS1ToN1, Outcome, outcome, gives, lent}
+use Rattle.promises.proofs.Shapes.{refusalOf, openedFirst, first-open, octetFound, octetRefused, octetUsed}
 
 abbrev pub sends : Context → ℕ → (ℕ → List ℕ) → List ℕ → Outcome
 sends x p made out = outcome useValues (useNext x p made out)
@@ -35,7 +37,8 @@ passes (reselect i c ik ck) x =
     record { values = success; context = record { core = coreWith i c (keyOf ik) (keyOf ck) (x .core .size); records = keptFor x i .records }; output = [] }
 passes (seal5gs t d k inner out) x = sends x (placeOf d k) (λ c. envelope (x .core) t c (bearerNo k) (directionNo d) inner) out
 passes (sealOpaque t d k inner out) x = sends x (placeOf d k) (λ c. envelope (x .core) t c (bearerNo k) (directionNo d) inner) out
-passes (open5gs d k m out) x = outcome openValues (opened x (placeOf d k) (bearerNo k) (directionNo d) m out)
+passes (sealInitial k w out) x = sends x (placeOf Uplink k) (λ c. initialEnvelope (x .core) c (bearerNo k) w) out
+passes (open5gs d k m out out2) x = outcome openValues (openedFirst x (placeOf d k) (bearerNo k) (directionNo d) m out)
 passes (sealEps inner out) x = sends x epsPlace (λ c. epsMessage (x .core) c inner) out
 passes (openEps m out) x = outcome epsOpenValues (epsOpened x m out)
 passes makeN1ToS1 x = outcome octetValues (lastOctet x (nextAt x containerPlace))
@@ -56,7 +59,7 @@ split v n r l = go (eqb n 0)
     go false = refl
 
 pub gives-is : (k : Call) (x : Context) → gives k x ≡ refusedOr (refusalOf k x) (λ n. alone n x (lent k)) (passes k x)
-unfolding windowOf reselectOf sealOf sealOpaqueOf sent openOf sealEpsOf openEpsOf n1ToS1Of verifyN1ToS1Of s1ToN1Of verifyS1ToN1Of
+unfolding windowOf reselectOf sealOf sealOpaqueOf sent initialOf sentInitial sealEpsOf openEpsOf n1ToS1Of verifyN1ToS1Of s1ToN1Of verifyS1ToN1Of
 gives-is (setWindow n) x = split changeValues (refusalOf (setWindow n) x) (λ j. leaves (change.Refused j) x []) (leaves change.Done (resized x n) [])
 gives-is (reselect i c ik ck) x =
     split changeValues (refusalOf (reselect i c ik ck) x) (λ j. leaves (change.Refused j) x [])
@@ -67,8 +70,12 @@ gives-is (seal5gs t d k inner out) x =
 gives-is (sealOpaque t d k inner out) x =
     split useValues (refusalOf (sealOpaque t d k inner out) x) (λ j. leaves (use′.Refused j) x out)
     (useNext x (placeOf d k) (λ c. envelope (x .core) t c (bearerNo k) (directionNo d) inner) out)
-gives-is (open5gs d k m out) x =
-    split openValues (refusalOf (open5gs d k m out) x) (λ j. leaves (open′.Refused j) x out) (opened x (placeOf d k) (bearerNo k) (directionNo d) m out)
+gives-is (sealInitial k w out) x =
+    split useValues (refusalOf (sealInitial k w out) x) (λ j. leaves (use′.Refused j) x out)
+    (useNext x (placeOf Uplink k) (λ c. initialEnvelope (x .core) c (bearerNo k) w) out)
+gives-is (open5gs d k m out out2) x =
+    ap (outcome openValues) (first-open x d k m out out2)
+    ∙ split openValues (refusalOf (open5gs d k m out out2) x) (λ j. leaves (open′.Refused j) x out) (openedFirst x (placeOf d k) (bearerNo k) (directionNo d) m out)
 gives-is (sealEps inner out) x =
     split useValues (refusalOf (sealEps inner out) x) (λ j. leaves (use′.Refused j) x out) (useNext x epsPlace (λ c. epsMessage (x .core) c inner) out)
 gives-is (openEps m out) x = split epsOpenValues (refusalOf (openEps m out) x) (λ j. leaves (eps.Refused j) x out) (epsOpened x m out)

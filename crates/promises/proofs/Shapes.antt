@@ -1,6 +1,6 @@
 -- The calls on a 5GS context: each does one act on one record, and answers the COUNT that it used.
 use Prim.Native.Nat.{ℕ, _%_}
-use mathlib.Core.Path.{_≡_, refl}
+use mathlib.Core.Path.{_≡_, refl, ap, _∙_}
 use mathlib.Core.Bool.{Bool, true, false, cond}
 use mathlib.Core.Logic.{_⊎_, inl, inr, ⊎-elim}
 use mathlib.Core.List.{List, [], _∷_, map}
@@ -10,6 +10,7 @@ use lib.Dec.{eqb, ltb}
 use Rattle.aes.specs.Keys.{keyOf}
 use Rattle.count.specs.declared.Record.{Record}
 use Rattle.count.specs.declared.Opening.{Opening}
+use Rattle.count.specs.declared.Opening.the-variants.{Late, Forward, None, Wrong}
 use Rattle.count.specs.Rule.{resizeOf, closeOf, useLate, forwardOnly, distanceOf}
 use Rattle.count.specs.Run.{Act, stay, resize, close, act, actOf, used}
 use borrow.Author.Tests.{eqb-true}
@@ -20,7 +21,12 @@ use Rattle.nas_core.specs.Refusals.{unbuilt}
 use Rattle.nas_core.specs.Keyed.{wraps, payload, awayFromNull}
 use Rattle.nas_core.specs.Verify.{verifyOf, advanced}
 use Rattle.look.specs.Look.{lookOf}
+use Rattle.initial.specs.Inside.{Hidden}
+use Rattle.envelope.specs.Initial.{initialEnvelope, besideOf, beside}
 use Rattle.nas_5gs.specs.declared.Context.{Context}
+use Rattle.nas_5gs.specs.declared.Direction.{Direction}
+use Rattle.nas_5gs.specs.declared.Direction.the-variants.{Uplink}
+use Rattle.nas_5gs.specs.declared.Connection.{Connection}
 use Rattle.nas_5gs.specs.declared.ChangeAnswer.the-variants as change
 use Rattle.nas_5gs.specs.declared.UseAnswer.the-variants as use′
 use Rattle.nas_5gs.specs.declared.OpenAnswer.{OpenAnswer}
@@ -31,14 +37,15 @@ use Rattle.nas_5gs.specs.declared.OctetAnswer.the-variants as octet
 use Rattle.nas_5gs.specs.declared.VerifyAnswer.{VerifyAnswer}
 use Rattle.nas_5gs.specs.declared.VerifyAnswer.the-variants as verify
 use Rattle.nas_5gs.specs.Places.{directionNo, bearerNo, placeOf, four, recordAt, nextAt, faultOf, used as usedAhead, usedLate}
-use Rattle.nas_5gs.specs.Leaves.{Leaves, leaves, over, useNext, received, refusal, changeValues, useValues, openValues, epsOpenValues, octetValues, verifyValues}
+use Rattle.nas_5gs.specs.Leaves.{Leaves, leaves, leavesTwo, over, useNext, received, refusal, changeValues, useValues, openValues, epsOpenValues, octetValues, verifyValues}
 use Rattle.nas_5gs.specs.Changes.{coreWith, closed, keptFor, reselectOf, windowOf, resized}
 use Rattle.nas_5gs.specs.Envelope.{ciphers, envelope}
 use Rattle.nas_5gs.specs.Seal.{sealRefusal, opaqueRefusal, sent, sealOf, sealOpaqueOf}
-use Rattle.nas_5gs.specs.Open.{typeOf, openRefusal, openAnswer, handed, opened, openOf}
+use Rattle.nas_5gs.specs.Initial.{initialRefusal, sentInitial, initialOf}
+use Rattle.nas_5gs.specs.Open.{typeOf, openRefusal, roomFor, insideNumber, openAnswer, handed, plainOf, opened, openOf}
 use Rattle.nas_5gs.specs.Eps.{epsPlace, epsBearer, epsDirection, notEps, epsMessage, sealEpsRefusal, sealEpsOf, openEpsRefusal, epsAnswer, epsHanded, epsOpened, openEpsOf}
 use Rattle.nas_5gs.specs.Containers.{containerPlace, noneLeft, lastOctet, s1ToN1, n1ToS1Of, verifyN1ToS1Of, s1ToN1Refusal, s1ToN1Of, verifyS1ToN1Refusal, verifyS1ToN1Of}
-use Rattle.promises.specs.Calls.{Call, setWindow, reselect, seal5gs, sealOpaque, open5gs, sealEps, openEps, makeN1ToS1, verifyN1ToS1, makeS1ToN1, verifyS1ToN1, Outcome, outcome, gives, placeIn, usedBy}
+use Rattle.promises.specs.Calls.{Call, setWindow, reselect, seal5gs, sealOpaque, sealInitial, open5gs, sealEps, openEps, makeN1ToS1, verifyN1ToS1, makeS1ToN1, verifyS1ToN1, Outcome, outcome, firstOf, secondOf, gives, placeIn, usedBy}
 use Rattle.promises.specs.Words.{SameKeys, recordOf}
 use Rattle.promise.proofs.Acts.{unless, same-keys, Holding, next as nextIn, Acts as ActsOn, refused, ahead, below, first-refused, by-opening, sends as sendsBy}
 
@@ -85,7 +92,8 @@ refusalOf (setWindow n) x = first (faultOf x ∷ 14 when (ltb 64 n) ∷ [])
 refusalOf (reselect i c ik ck) x = first (faultOf x ∷ 13 when unbuilt i c ∷ [])
 refusalOf (seal5gs t d k inner out) x = sealRefusal x t (placeOf d k) (directionNo d) inner (length out)
 refusalOf (sealOpaque t d k inner out) x = opaqueRefusal x t (placeOf d k) inner (length out)
-refusalOf (open5gs d k m out) x = openRefusal x m (length out)
+refusalOf (sealInitial k w out) x = initialRefusal x (placeOf Uplink k) w (length out)
+refusalOf (open5gs d k m out out2) x = openRefusal x m (roomFor (typeOf m) (directionNo d) (length out) (length out2))
 refusalOf (sealEps inner out) x = sealEpsRefusal x inner (length out)
 refusalOf (openEps m out) x = openEpsRefusal x m (length out)
 refusalOf makeN1ToS1 x = first (faultOf x ∷ 6 when noneLeft x ∷ [])
@@ -99,7 +107,8 @@ passing (setWindow n) x = resize n
 passing (reselect i c ik ck) x = cond (awayFromNull (x .core .integrity) i) close stay
 passing (seal5gs t d k inner out) x = next x (placeOf d k)
 passing (sealOpaque t d k inner out) x = next x (placeOf d k)
-passing (open5gs d k m out) x =
+passing (sealInitial k w out) x = next x (placeOf Uplink k)
+passing (open5gs d k m out out2) x =
     actOf (wraps (x .core)) (verifyOf (x .core) (recordAt x (placeOf d k)) (bearerNo k) (directionNo d) 2 m)
 passing (sealEps inner out) x = next x epsPlace
 passing (openEps m out) x = actOf (wraps (x .core)) (verifyOf (x .core) (recordAt x epsPlace) epsBearer epsDirection 1 m)
@@ -119,9 +128,9 @@ resize-four f none (a ∷ b ∷ c ∷ []) h = absurd (omega arith)
 resize-four f none (a ∷ b ∷ c ∷ d ∷ []) h = refl
 resize-four f none (a ∷ b ∷ c ∷ d ∷ e ∷ l) h = absurd (omega arith)
 
-open-counts : (c f w t n : ℕ) (b : Bool) → usedBy (openValues (cond b (open′.Accepted c f w t) (open′.Content c f w t n))) ≡ c ∷ []
-open-counts c f w t n true = refl
-open-counts c f w t n false = refl
+open-counts : (c f w t n s : ℕ) (b : Bool) → usedBy (openValues (cond b (open′.Accepted c f w t s) (open′.Content c f w t n))) ≡ c ∷ []
+open-counts c f w t n s true = refl
+open-counts c f w t n s false = refl
 
 eps-counts : (c f w : ℕ) (b : Bool) → usedBy (epsOpenValues (cond b (eps.Content c f w 12) (eps.Accepted c f w))) ≡ c ∷ []
 eps-counts c f w true = refl
@@ -144,6 +153,21 @@ window-acts x n h =
       counts = refl;
     }
 
+-- a part of what is left, by a refusal that comes first and by what an opening finds
+of-refused : {R S : Type 0} (f : R → S) (n : ℕ) (r : ℕ → R) (l : R) → f (refusedOr n r l) ≡ refusedOr n (λ k. f (r k)) (f l)
+of-refused f n r l = go (eqb n 0)
+  where
+    go : (t : Bool) → f (cond t l (r n)) ≡ cond t (f l) (f (r n))
+    go true = refl
+    go false = refl
+
+of-received : {R S : Type 0} (f : R → S) (x : Context) (p : ℕ) (r : ℕ → R) (h : ℕ → Context → R) (o : Opening)
+    → f (received x p r h o) ≡ received x p (λ n. f (r n)) (λ c y. f (h c y)) o
+of-received f x p r h None = refl
+of-received f x p r h Wrong = refl
+of-received f x p r h (Late c) = refl
+of-received f x p r h (Forward c) = refl
+
 -- 5GS open
 module _ (x : Context) (p b d : ℕ) (m out : List ℕ) where
   abbrev pub found : Opening
@@ -155,25 +179,64 @@ module _ (x : Context) (p b d : ℕ) (m out : List ℕ) where
   abbrev pub look : ℕ → ℕ
   look c = lookOf (typeOf m) d (plain c)
 
-  abbrev pub openedAs : ℕ → OpenAnswer
-  openedAs c = openAnswer c (distanceOf (recordAt x p) c) (length (plain c)) (typeOf m) (look c)
+  -- what is inside it
+  abbrev pub inside : ℕ → Hidden
+  inside c = besideOf (x .core) (typeOf m) c b d (plain c)
 
-  abbrev notOpened : ℕ → Leaves OpenAnswer
+  abbrev pub carried : ℕ → ℕ
+  carried c = insideNumber (look c) (inside c)
+
+  abbrev pub openedAs : ℕ → OpenAnswer
+  openedAs c = openAnswer c (distanceOf (recordAt x p) c) (length (plain c)) (typeOf m) (carried c) (length (beside (inside c)))
+
+  abbrev pub notOpened : ℕ → Leaves OpenAnswer
   notOpened k = leaves (open′.Refused k) x out
+
+  -- all that it leaves but the second output
+  abbrev pub openedFirst : Leaves OpenAnswer
+  openedFirst = received x p notOpened (λ c y. leaves (openedAs c) y (over (plain c) out)) found
 
   open-refused : (k : ℕ) → Acts x p stay (outcome openValues (notOpened k))
   open-refused k = refused holding x p (refusal k) out refl
 
   as-counted : (c : ℕ) → usedBy (openValues (openedAs c)) ≡ c ∷ []
-  as-counted c = open-counts c (distanceOf (recordAt x p) c) (length (plain c)) (typeOf m) (look c) (eqb (look c) 0)
+  as-counted c = open-counts c (distanceOf (recordAt x p) c) (length (plain c)) (typeOf m) (carried c) (length (beside (inside c))) (eqb (carried c) 0)
 
-  open-acts : (n : ℕ) → Acts x p (unless n (actOf (wraps (x .core)) found)) (outcome openValues (refusedOr n notOpened (opened x p b d m out)))
-  unfolding opened handed
+  open-acts : (n : ℕ) → Acts x p (unless n (actOf (wraps (x .core)) found)) (outcome openValues (refusedOr n notOpened openedFirst))
   open-acts n =
-      first-refused holding x p openValues n notOpened (opened x p b d m out) (actOf (wraps (x .core)) found) open-refused
-      (by-opening holding x p openValues notOpened (λ c y. handed (typeOf m) d (plain c) out c (distanceOf (recordAt x p) c) y) found open-refused
+      first-refused holding x p openValues n notOpened openedFirst (actOf (wraps (x .core)) found) open-refused
+      (by-opening holding x p openValues notOpened (λ c y. leaves (openedAs c) y (over (plain c) out)) found open-refused
       (λ c. ahead holding x p (openValues (openedAs c)) c (over (plain c) out) (as-counted c))
       (λ c. below holding x p (openValues (openedAs c)) c (over (plain c) out) (as-counted c)))
+
+  -- what then stands in the second output
+  abbrev pub openedSecond : List ℕ → List ℕ
+  openedSecond out2 = received x p (λ n. out2) (λ c y. over (beside (inside c)) out2) found
+
+  first-opened : (out2 : List ℕ) → firstOf (opened x p b d m out out2) ≡ openedFirst
+  unfolding opened handed plainOf
+  first-opened out2 = of-received firstOf x p (λ n. leavesTwo (open′.Refused n) x out out2) (λ c y. leavesTwo (openedAs c) y (over (plain c) out) (over (beside (inside c)) out2)) found
+
+  second-opened : (out2 : List ℕ) → secondOf (opened x p b d m out out2) ≡ openedSecond out2
+  unfolding opened handed plainOf
+  second-opened out2 = of-received secondOf x p (λ n. leavesTwo (open′.Refused n) x out out2) (λ c y. leavesTwo (openedAs c) y (over (plain c) out) (over (beside (inside c)) out2)) found
+
+module _ (x : Context) (d : Direction) (k : Connection) (m out out2 : List ℕ) where
+  abbrev refusal5gs : ℕ
+  refusal5gs = openRefusal x m (roomFor (typeOf m) (directionNo d) (length out) (length out2))
+
+  pub first-open : firstOf (openOf x d k m out out2)
+      ≡ refusedOr refusal5gs (notOpened x (placeOf d k) (bearerNo k) (directionNo d) m out) (openedFirst x (placeOf d k) (bearerNo k) (directionNo d) m out)
+  unfolding openOf
+  first-open =
+      of-refused firstOf refusal5gs (λ n. leavesTwo (open′.Refused n) x out out2) (opened x (placeOf d k) (bearerNo k) (directionNo d) m out out2)
+      ∙ ap (refusedOr refusal5gs (notOpened x (placeOf d k) (bearerNo k) (directionNo d) m out)) (first-opened x (placeOf d k) (bearerNo k) (directionNo d) m out out2)
+
+  pub second-open : secondOf (openOf x d k m out out2) ≡ refusedOr refusal5gs (λ n. out2) (openedSecond x (placeOf d k) (bearerNo k) (directionNo d) m out out2)
+  unfolding openOf
+  second-open =
+      of-refused secondOf refusal5gs (λ n. leavesTwo (open′.Refused n) x out out2) (opened x (placeOf d k) (bearerNo k) (directionNo d) m out out2)
+      ∙ ap (refusedOr refusal5gs (λ n. out2)) (second-opened x (placeOf d k) (bearerNo k) (directionNo d) m out out2)
 
 -- EPS open
 module _ (x : Context) (m out : List ℕ) where
@@ -303,12 +366,15 @@ reselect-acted i c ik ck x h =
     go false b e = (inl (same-keys (x .core)), refl, refl, refl)
 
 pub acts : (k : Call) (x : Context) → length (x .records) ≡ 4 → Acted k x
-unfolding sealOf sealOpaqueOf sent openOf sealEpsOf openEpsOf s1ToN1Of verifyS1ToN1Of
+unfolding sealOf sealOpaqueOf sent initialOf sentInitial sealEpsOf openEpsOf s1ToN1Of verifyS1ToN1Of
 acts (setWindow n) x h = kept-keys (setWindow n) x (window-acts x n h)
 acts (reselect i c ik ck) x h = reselect-acted i c ik ck x h
 acts (seal5gs t d k inner out) x h = kept-keys (seal5gs t d k inner out) x (sends x (placeOf d k) (sealRefusal x t (placeOf d k) (directionNo d) inner (length out)) (λ c. envelope (x .core) t c (bearerNo k) (directionNo d) inner) out)
 acts (sealOpaque t d k inner out) x h = kept-keys (sealOpaque t d k inner out) x (sends x (placeOf d k) (opaqueRefusal x t (placeOf d k) inner (length out)) (λ c. envelope (x .core) t c (bearerNo k) (directionNo d) inner) out)
-acts (open5gs d k m out) x h = kept-keys (open5gs d k m out) x (open-acts x (placeOf d k) (bearerNo k) (directionNo d) m out (openRefusal x m (length out)))
+acts (sealInitial k w out) x h = kept-keys (sealInitial k w out) x (sends x (placeOf Uplink k) (initialRefusal x (placeOf Uplink k) w (length out)) (λ c. initialEnvelope (x .core) c (bearerNo k) w) out)
+acts (open5gs d k m out out2) x h =
+    kept-keys (open5gs d k m out out2) x
+    (rw (first-open x d k m out out2) (open-acts x (placeOf d k) (bearerNo k) (directionNo d) m out (refusalOf (open5gs d k m out out2) x)))
 acts (sealEps inner out) x h = kept-keys (sealEps inner out) x (sends x epsPlace (sealEpsRefusal x inner (length out)) (λ c. epsMessage (x .core) c inner) out)
 acts (openEps m out) x h = kept-keys (openEps m out) x (eps-acts x m out (openEpsRefusal x m (length out)))
 acts makeN1ToS1 x h = kept-keys makeN1ToS1 x (made-acts x)

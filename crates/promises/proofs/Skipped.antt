@@ -18,6 +18,7 @@ use Rattle.count.proofs.Openings.{answers}
 use Rattle.count.proofs.Skipped.{distances}
 use Rattle.nas_core.specs.Keyed.{wraps}
 use Rattle.nas_core.specs.Verify.{fits, verifyOf}
+use Rattle.envelope.specs.Initial.{beside}
 use Rattle.nas_5gs.specs.declared.Context.{Context}
 use Rattle.nas_5gs.specs.declared.OpenAnswer.the-variants as open′
 use Rattle.nas_5gs.specs.declared.EpsOpenAnswer.the-variants as eps
@@ -27,10 +28,10 @@ use Rattle.nas_5gs.specs.Leaves.{leaves, over, useNext, received, Values, openV
 use Rattle.nas_5gs.specs.Open.{typeOf, handed, opened}
 use Rattle.nas_5gs.specs.Eps.{epsPlace, epsBearer, epsDirection, notEps, epsHanded, epsOpened}
 use Rattle.nas_5gs.specs.Containers.{containerPlace}
-use Rattle.promises.specs.Calls.{Call, setWindow, reselect, seal5gs, sealOpaque, open5gs, sealEps, openEps, makeN1ToS1, verifyN1ToS1, makeS1ToN1, verifyS1ToN1, Outcome, outcome, gives, lent, placeIn}
+use Rattle.promises.specs.Calls.{Call, setWindow, reselect, seal5gs, sealOpaque, sealInitial, open5gs, sealEps, openEps, makeN1ToS1, verifyN1ToS1, makeS1ToN1, verifyS1ToN1, Outcome, outcome, gives, lent, placeIn}
 use Rattle.promises.specs.Demand1.{MayBeLate}
 use Rattle.promises.specs.Skipped.{Tells, Counted, Skipped}
-use Rattle.promises.proofs.Shapes.{refusalOf, found, plain, look, openedAs, epsFound, epsAs, octetFound, octetAs}
+use Rattle.promises.proofs.Shapes.{refusalOf, found, plain, inside, carried, openedAs, epsFound, epsAs, octetFound, octetAs}
 use Rattle.promises.proofs.Passing.{passes, alone, gives-is, gives-passed, uses-passed}
 use Rattle.promises.proofs.Taking.{open-answering, eps-answering}
 use Rattle.promises.proofs.Numbers.{fault-first}
@@ -76,9 +77,9 @@ module _ (w : Bool) (fit : ℕ → Bool) (size : ℕ) (r : Record) (s c : ℕ) w
       go true q = never q
       go false q = distances 8 r s .late size c small q
 
-open-far : (c f w t n : ℕ) (b : Bool) → openValues (cond b (open′.Accepted c f w t) (open′.Content c f w t n)) .distance ≡ f
-open-far c f w t n true = refl
-open-far c f w t n false = refl
+open-far : (c f w t n s : ℕ) (b : Bool) → openValues (cond b (open′.Accepted c f w t s) (open′.Content c f w t n)) .distance ≡ f
+open-far c f w t n s true = refl
+open-far c f w t n s false = refl
 
 eps-far : (c f w : ℕ) (b : Bool) → epsOpenValues (cond b (eps.Content c f w 12) (eps.Accepted c f w)) .distance ≡ f
 eps-far c f w true = refl
@@ -87,18 +88,19 @@ eps-far c f w false = refl
 module _ (x : Context) where
   open-told : (p b f : ℕ) (m out : List ℕ) (c : ℕ) → openValues (openedAs x p b f m out c) .distance ≡ distanceOf (recordAt x p) c
   open-told p b f m out c =
-      open-far c (distanceOf (recordAt x p) c) (length (plain x p b f m out c)) (typeOf m) (look x p b f m out c) (eqb (look x p b f m out c) 0)
+      open-far c (distanceOf (recordAt x p) c) (length (plain x p b f m out c)) (typeOf m) (carried x p b f m out c) (length (beside (inside x p b f m out c))) (eqb (carried x p b f m out c) 0)
 
   eps-told : (m out : List ℕ) (c : ℕ) → epsOpenValues (epsAs x m out c) .distance ≡ distanceOf (recordAt x epsPlace) c
   eps-told m out c = eps-far c (distanceOf (recordAt x epsPlace) c) (length (drop 6 m)) (notEps (drop 6 m))
 
   passes-counted : (k : Call) → Tells k → x .core .size ≤ 64 → passes k x .values .uses ≡ true → Counted (MayBeLate k) x (placeIn k) (passes k x)
-  unfolding opened handed epsOpened epsHanded verifyOf forwardOnly
+  unfolding epsOpened epsHanded verifyOf forwardOnly
   passes-counted (setWindow n) t small = absurd t
   passes-counted (reselect i c ik ck) t small = absurd t
   passes-counted (seal5gs h d k inner out) t small = absurd t
   passes-counted (sealOpaque h d k inner out) t small = absurd t
-  passes-counted (open5gs d k m out) t small =
+  passes-counted (sealInitial k w out) t small = absurd t
+  passes-counted (open5gs d k m out out2) t small =
       let b = bearerNo k in let f = directionNo d in let p = placeOf d k in
       let fit : ℕ → Bool = λ c. fits (x .core) c b f 2 m in
       counted openValues open′.Refused (openedAs x p b f m out) x p (plain x p b f m out) out (λ n. refl) (open-answering x p b f m out .count)
@@ -135,12 +137,13 @@ module _ (x : Context) where
       subst (λ (o : Outcome). o .values .uses ≡ true → Counted (MayBeLate k) x (placeIn k) o) (sym e) (passes-counted k t small) u
 
   passes-told : (k : Call) → Tells k → Fixed (recordAt x (placeIn k)) (passes k x)
-  unfolding opened handed epsOpened epsHanded
+  unfolding epsOpened epsHanded
   passes-told (setWindow n) t = absurd t
   passes-told (reselect i c ik ck) t = absurd t
   passes-told (seal5gs h d k inner out) t = absurd t
   passes-told (sealOpaque h d k inner out) t = absurd t
-  passes-told (open5gs d k m out) t =
+  passes-told (sealInitial k w out) t = absurd t
+  passes-told (open5gs d k m out out2) t =
       let b = bearerNo k in let f = directionNo d in let p = placeOf d k in
       fixed openValues open′.Refused (openedAs x p b f m out) x p (plain x p b f m out) out (λ n. refl) (open-answering x p b f m out .count)
       (open-told p b f m out) (found x p b f m out)
@@ -165,7 +168,8 @@ module _ (x : Context) where
   passes-silent (reselect i c ik ck) t = refl
   passes-silent (seal5gs h d k inner out) t = refl
   passes-silent (sealOpaque h d k inner out) t = refl
-  passes-silent (open5gs d k m out) t = absurd (t tt)
+  passes-silent (sealInitial k w out) t = refl
+  passes-silent (open5gs d k m out out2) t = absurd (t tt)
   passes-silent (sealEps inner out) t = refl
   passes-silent (openEps m out) t = absurd (t tt)
   passes-silent makeN1ToS1 t = refl

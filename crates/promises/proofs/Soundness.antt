@@ -18,11 +18,13 @@ use Rattle.nas_core.specs.declared.Core.{Core}
 use Rattle.nas_core.specs.Keyed.{wraps, awayFromNull}
 use Rattle.nas_core.specs.Verify.{fits, verifyOf}
 use Rattle.nas_5gs.specs.declared.Context.{Context}
+use Rattle.nas_5gs.specs.declared.Direction.the-variants.{Uplink}
 use Rattle.nas_5gs.specs.Places.{directionNo, bearerNo, placeOf, recordAt, nextAt, faultOf}
 use Rattle.nas_5gs.specs.Seal.{sealRefusals, sealRefusal, opaqueRefusals, opaqueRefusal}
+use Rattle.nas_5gs.specs.Initial.{initialRefusals, initialRefusal}
 use Rattle.nas_5gs.specs.Eps.{epsPlace, epsBearer, epsDirection, sealEpsRefusals, sealEpsRefusal}
 use Rattle.nas_5gs.specs.Containers.{containerPlace, noneLeft, s1ToN1Refusals, s1ToN1Refusal, verifyS1ToN1Refusals, verifyS1ToN1Refusal}
-use Rattle.promises.specs.Calls.{Call, setWindow, reselect, seal5gs, sealOpaque, open5gs, sealEps, openEps, makeN1ToS1, verifyN1ToS1, makeS1ToN1, verifyS1ToN1, gives, placeIn}
+use Rattle.promises.specs.Calls.{Call, setWindow, reselect, seal5gs, sealOpaque, sealInitial, open5gs, sealEps, openEps, makeN1ToS1, verifyN1ToS1, makeS1ToN1, verifyS1ToN1, gives, placeIn}
 use Rattle.promises.specs.Words.{SameKeys, recordOf}
 use Rattle.promise.proofs.Acts.{unless}
 use Rattle.promises.proofs.Shapes.{next, refusalOf, passing, does, acts}
@@ -71,7 +73,8 @@ NextThere (setWindow n) x = Unit {0}
 NextThere (reselect i c ik ck) x = Unit {0}
 NextThere (seal5gs t d k inner out) x = nextAt x (placeOf d k) < exhausted
 NextThere (sealOpaque t d k inner out) x = nextAt x (placeOf d k) < exhausted
-NextThere (open5gs d k m out) x = Unit {0}
+NextThere (sealInitial k w out) x = nextAt x (placeOf Uplink k) < exhausted
+NextThere (open5gs d k m out out2) x = Unit {0}
 NextThere (sealEps inner out) x = nextAt x epsPlace < exhausted
 NextThere (openEps m out) x = Unit {0}
 NextThere makeN1ToS1 x = nextAt x containerPlace < exhausted
@@ -80,13 +83,14 @@ NextThere (makeS1ToN1 ncc ngksi out) x = nextAt x containerPlace < exhausted
 NextThere (verifyS1ToN1 v) x = nextAt x containerPlace < exhausted
 
 pub next-there : (k : Call) (x : Context) → refusalOf k x ≡ 0 → NextThere k x
-unfolding sealRefusal opaqueRefusal sealEpsRefusal s1ToN1Refusal verifyS1ToN1Refusal
+unfolding sealRefusal opaqueRefusal initialRefusal sealEpsRefusal s1ToN1Refusal verifyS1ToN1Refusal
 next-there (setWindow n) x e = tt
 next-there (reselect i c ik ck) x e = tt
 next-there (seal5gs t d k inner out) x e =
     left (sealRefusals x t (placeOf d k) (directionNo d) inner (length out)) 7 (nextAt x (placeOf d k)) e refl
 next-there (sealOpaque t d k inner out) x e = left (opaqueRefusals x t (placeOf d k) inner (length out)) 4 (nextAt x (placeOf d k)) e refl
-next-there (open5gs d k m out) x e = tt
+next-there (sealInitial k w out) x e = left (initialRefusals x (placeOf Uplink k) w (length out)) 5 (nextAt x (placeOf Uplink k)) e refl
+next-there (open5gs d k m out out2) x e = tt
 next-there (sealEps inner out) x e = left (sealEpsRefusals x inner (length out)) 4 (nextAt x epsPlace) e refl
 next-there (openEps m out) x e = tt
 next-there makeN1ToS1 x e = left (faultOf x ∷ 6 when noneLeft x ∷ []) 1 (nextAt x containerPlace) e refl
@@ -115,7 +119,8 @@ module _ (x : Context) (guarded : wraps (x .core) ≡ false) where
   passing-valid (reselect i c ik ck) h = reselect-valid i
   passing-valid (seal5gs t d k inner out) h = next-valid (placeOf d k) h
   passing-valid (sealOpaque t d k inner out) h = next-valid (placeOf d k) h
-  passing-valid (open5gs d k m out) h = verify-valid (placeOf d k) (bearerNo k) (directionNo d) 2 m
+  passing-valid (sealInitial k w out) h = next-valid (placeOf Uplink k) h
+  passing-valid (open5gs d k m out out2) h = verify-valid (placeOf d k) (bearerNo k) (directionNo d) 2 m
   passing-valid (sealEps inner out) h = next-valid epsPlace h
   passing-valid (openEps m out) h = verify-valid epsPlace epsBearer epsDirection 1 m
   passing-valid makeN1ToS1 h = next-valid containerPlace h

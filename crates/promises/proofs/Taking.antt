@@ -1,19 +1,20 @@
 -- When an open call takes a message as a COUNT: by what its opening finds.
-use Prim.Native.Nat.{ℕ, _+_, _-_, _%_, _≤_, _<_}
+use Prim.Native.Nat.{ℕ, _+_, _-_, _%_, _≤_, _<_, min}
 use mathlib.Core.Path.{_≡_, refl, ap, _∙_}
-use mathlib.Core.Bool.{Bool, true, false, cond}
+use mathlib.Core.Bool.{Bool, true, false, cond, _&&_}
 use mathlib.Core.Logic.{_⊎_, inl, inr}
 use mathlib.Core.List.{List}
 use native.Mathlib.Omega.{arith}
 use lib.ListN.{length, getD, drop}
 use lib.Dec.{eqb}
-use borrow.Author.Tests.{eq-eqb, ne-eqb, le-ltb}
+use borrow.Author.Tests.{eqb-true, eq-eqb, ne-eqb, le-ltb}
 use Rattle.count.specs.declared.Opening.{Opening}
 use Rattle.count.specs.Rule.{exhausted, distanceOf, opening}
 use Rattle.nas_core.specs.declared.Core.{Core}
 use Rattle.nas_core.specs.Keyed.{wraps, payload}
 use Rattle.nas_core.specs.Refusals.{limit, unbuilt, coreFault}
 use Rattle.nas_core.specs.Verify.{fits, verifyOf}
+use Rattle.envelope.specs.Initial.{beside}
 use Rattle.nas_5gs.specs.declared.Context.{Context}
 use Rattle.nas_5gs.specs.declared.Direction.{Direction}
 use Rattle.nas_5gs.specs.declared.Connection.{Connection}
@@ -22,12 +23,12 @@ use Rattle.nas_5gs.specs.declared.EpsOpenAnswer.the-variants as eps
 use Rattle.nas_5gs.specs.Places.{directionNo, bearerNo, placeOf, recordAt, nextAt, faultOf}
 use Rattle.nas_5gs.specs.Leaves.{Values, openValues, epsOpenValues}
 use Rattle.nas_5gs.specs.Envelope.{wrongType, ciphers, envelope}
-use Rattle.nas_5gs.specs.Open.{typeOf, openRefusal, handed, opened, openOf}
+use Rattle.nas_5gs.specs.Open.{typeOf, openRefusal, roomFor}
 use Rattle.nas_5gs.specs.Eps.{epsPlace, notEps, epsMessage, openEpsRefusal, epsHanded, epsOpened, openEpsOf}
 use Rattle.promises.specs.Calls.{open5gs, openEps, Outcome, gives}
 use Rattle.promise.proofs.Answers.{left as leftBy}
 pub use Rattle.promise.proofs.Answers.{Answering}
-use Rattle.promises.proofs.Shapes.{holding, found, plain, look, openedAs, epsFound, epsAs}
+use Rattle.promises.proofs.Shapes.{holding, found, plain, inside, carried, openedAs, first-open, epsFound, epsAs}
 use Rattle.promises.proofs.Opening.{Sealed, envelope-sealed, payload-length, payload-twice}
 
 pub no-fault : (x : Context) → unbuilt (x .core .integrity) (x .core .ciphering) ≡ false → x .core .size ≤ 64 → ((p : ℕ) → p < 4 → nextAt x p ≤ exhausted)
@@ -52,17 +53,17 @@ module _ (x : Context) (p b d : ℕ) (m out : List ℕ) where
   open-answering =
       record {
         refuses = λ n. refl;
-        uses = λ c. go-uses c (eqb (look x p b d m out c) 0);
-        count = λ c. go-count c (eqb (look x p b d m out c) 0);
-        number = λ c. go-number c (eqb (look x p b d m out c) 0);
-        wrote = λ c. go-wrote c (eqb (look x p b d m out c) 0);
+        uses = λ c. go-uses c (eqb (carried x p b d m out c) 0);
+        count = λ c. go-count c (eqb (carried x p b d m out c) 0);
+        number = λ c. go-number c (eqb (carried x p b d m out c) 0);
+        wrote = λ c. go-wrote c (eqb (carried x p b d m out c) 0);
       }
     where
       answer : ℕ → Bool → Values
       answer c t =
           openValues (
-          cond t (open′.Accepted c (distanceOf (recordAt x p) c) (length (plain x p b d m out c)) (typeOf m))
-          (open′.Content c (distanceOf (recordAt x p) c) (length (plain x p b d m out c)) (typeOf m) (look x p b d m out c)))
+          cond t (open′.Accepted c (distanceOf (recordAt x p) c) (length (plain x p b d m out c)) (typeOf m) (length (beside (inside x p b d m out c))))
+          (open′.Content c (distanceOf (recordAt x p) c) (length (plain x p b d m out c)) (typeOf m) (carried x p b d m out c)))
 
       go-uses : (c : ℕ) (t : Bool) → answer c t .uses ≡ true
       go-uses c true = refl
@@ -111,13 +112,13 @@ module _ (x : Context) (m out : List ℕ) where
       go-wrote c false = refl
 
 -- what the calls leave, once they are not refused at once
-pub open-left : (x : Context) (d : Direction) (k : Connection) (m out : List ℕ) → openRefusal x m (length out) ≡ 0
+pub open-left : (x : Context) (d : Direction) (k : Connection) (m out out2 : List ℕ)
+    → openRefusal x m (roomFor (typeOf m) (directionNo d) (length out) (length out2)) ≡ 0
     → let b = bearerNo k in let p = placeOf d k in
-    gives (open5gs d k m out) x
+    gives (open5gs d k m out out2) x
     ≡ left openValues open′.Refused (openedAs x p b (directionNo d) m out) (plain x p b (directionNo d) m out)
     (open-answering x p b (directionNo d) m out) x p out (found x p b (directionNo d) m out)
-unfolding openOf opened handed
-open-left x d k m out e = rw e
+open-left x d k m out out2 e = rw (first-open x d k m out out2, e)
 
 pub eps-left : (x : Context) (m out : List ℕ) → openEpsRefusal x m (length out) ≡ 0
     → gives (openEps m out) x
@@ -151,6 +152,16 @@ module _ (x : Context) (fault : faultOf x ≡ 0) (m : List ℕ) (n room : ℕ) (
         le-ltb limit (length m - 6) (omega arith),
         le-ltb room (length m - 6) (omega arith),
       )
+
+-- the room that is asked for, where both outputs have it
+pub has-room : (t d n room room2 : ℕ) → n ≤ room → (t ≡ 1 → d ≡ 0 → n ≤ room2) → n ≤ roomFor t d room room2
+unfolding roomFor
+has-room t d n room room2 fit fit2 = go (eqb t 1) (eqb d 0) refl refl
+  where
+    go : (a b : Bool) → eqb t 1 ≡ a → eqb d 0 ≡ b → n ≤ cond (a && b) (min room room2) room
+    go true true p q = let h = fit2 (eqb-true t 1 p) (eqb-true d 0 q) in omega arith
+    go true false p q = fit
+    go false b p q = fit
 
 -- a sealed message is so
 module _ (x : Core) (t c b d : ℕ) (inner : List ℕ) where

@@ -37,10 +37,10 @@ use Rattle.nas_5gs.specs.declared.VerifyAnswer.the-variants as verify
 use Rattle.nas_5gs.specs.declared.Direction.the-variants.{Uplink}
 use Rattle.nas_5gs.specs.declared.Connection.the-variants.{ThreeGpp}
 use Rattle.nas_5gs.specs.Places.{placeOf, recordAt, nextAt}
-use Rattle.nas_5gs.specs.Leaves.{Leaves, leaves, Values, changeValues, useValues, openValues, epsOpenValues, octetValues, verifyValues}
+use Rattle.nas_5gs.specs.Leaves.{LeavesTwo, leavesTwo, Leaves, leaves, Values, changeValues, useValues, openValues, epsOpenValues, octetValues, verifyValues}
 use Rattle.nas_5gs.specs.Changes.{contextWith, resized, newOf}
 use Rattle.nas_5gs.specs.Envelope.{envelope}
-use Rattle.promises.specs.Calls.{Call, setWindow, seal5gs, sealOpaque, open5gs, sealEps, openEps, makeN1ToS1, verifyN1ToS1, makeS1ToN1, verifyS1ToN1, reselect, Making, Outcome, outcome, gives, makes, usedBy, contextAfter, countsUsed}
+use Rattle.promises.specs.Calls.{Call, setWindow, seal5gs, sealOpaque, sealInitial, open5gs, sealEps, openEps, makeN1ToS1, verifyN1ToS1, makeS1ToN1, verifyS1ToN1, reselect, Making, Outcome, outcome, firstOf, secondOf, gives, makes, usedBy, contextAfter, countsUsed}
 use Rattle.promises.specs.Words.{recordOf, TakenAs}
 use Rattle.promises.specs.Demand2.{Estimates}
 use Rattle.promises.specs.Demand3.{fresh as begun, NeverTo, Demand3, Fresh, StillOpen, Opens, Keeps}
@@ -70,12 +70,12 @@ use-back (use′.Used c w) = refl
 abbrev openRead : Values → OpenAnswer
 openRead v =
     cond (v .uses)
-    (cond (v .refused) (open′.Content (v .count) (v .distance) (v .wrote) (v .header) (v .carried)) (open′.Accepted (v .count) (v .distance) (v .wrote) (v .header)))
+    (cond (v .refused) (open′.Content (v .count) (v .distance) (v .wrote) (v .header) (v .carried)) (open′.Accepted (v .count) (v .distance) (v .wrote) (v .header) (v .second)))
     (open′.Refused (v .number))
 
 open-back : (a : OpenAnswer) → openRead (openValues a) ≡ a
 open-back (open′.Refused n) = refl
-open-back (open′.Accepted c f w t) = refl
+open-back (open′.Accepted c f w t s) = refl
 open-back (open′.Content c f w t n) = refl
 
 abbrev epsRead : Values → EpsOpenAnswer
@@ -122,7 +122,8 @@ one-only : (k : Call) (x : Context) (l l′ : Leaves (AnswerOf k)) → Meets k x
 one-only (setWindow n) x = one-changed (gives (setWindow n) x)
 one-only (seal5gs t d k inner out) x = one-used (gives (seal5gs t d k inner out) x)
 one-only (sealOpaque t d k inner out) x = one-used (gives (sealOpaque t d k inner out) x)
-one-only (open5gs d k m out) x = one-left openValues openRead open-back (gives (open5gs d k m out) x)
+one-only (sealInitial k w out) x = one-used (gives (sealInitial k w out) x)
+one-only (open5gs d k m out out2) x = one-left openValues openRead open-back (gives (open5gs d k m out out2) x)
 one-only (sealEps inner out) x = one-used (gives (sealEps inner out) x)
 one-only (openEps m out) x = one-left epsOpenValues epsRead eps-back (gives (openEps m out) x)
 one-only makeN1ToS1 x = one-left octetValues octetRead octet-back (gives makeN1ToS1 x)
@@ -131,8 +132,18 @@ one-only (makeS1ToN1 ncc ngksi out) x = one-used (gives (makeS1ToN1 ncc ngksi ou
 one-only (verifyS1ToN1 v) x = one-used (gives (verifyS1ToN1 v) x)
 one-only (reselect i c ik ck) x = one-changed (gives (reselect i c ik ck) x)
 
+-- two outputs: by the first half and the second
+two-one : {A : Type 0} (l l′ : LeavesTwo A) → firstOf l ≡ firstOf l′ → secondOf l ≡ secondOf l′ → l ≡ l′
+two-one (leavesTwo a x out out2) (leavesTwo a′ x′ out′ out2′) e f = cc
+
 pub only-one : OnlyOne
-only-one = record { calls = one-only; makings = λ m. one-changed (makes m) }
+only-one =
+    record {
+      calls = one-only;
+      both = λ d k m out out2 x l l′ p q.
+          two-one l l′ (one-only (open5gs d k m out out2) x (firstOf l) (firstOf l′) (p .0) (q .0)) (p .1 ∙ sym (q .1));
+      makings = λ m. one-changed (makes m);
+    }
 
 -- a fresh context with integrity code 2, and a message of one octet
 abbrev zeros : List ℕ
@@ -153,7 +164,7 @@ abbrev message : ℕ → List ℕ
 message c = envelope (x .core) 1 c 1 0 one
 
 abbrev opening : ℕ → Call
-opening c = open5gs Uplink ThreeGpp (message c) one
+opening c = open5gs Uplink ThreeGpp (message c) one one
 
 -- calls none of which is a reselection
 abbrev Plain : List Call → Type 0
@@ -164,8 +175,8 @@ plain-never : (G : Call → Context → Outcome) (P : ℕ → Type 0) (x : Conte
 plain-never G P x [] h = tt
 plain-never G P x (k ∷ ks) h = ((λ i c ik ck e q s. h .0 i c ik ck e), plain-never G P x ks (h .1))
 
-open-plain : (m out : List ℕ) (i c : ℕ) (ik ck : List ℕ) → open5gs Uplink ThreeGpp m out ≡ reselect i c ik ck → ⊥
-open-plain m out i c ik ck e = let z : _≡_ {A = ℕ} 0 1 = cc in omega arith
+open-plain : (m out out2 : List ℕ) (i c : ℕ) (ik ck : List ℕ) → open5gs Uplink ThreeGpp m out out2 ≡ reselect i c ik ck → ⊥
+open-plain m out out2 i c ik ck e = let z : _≡_ {A = ℕ} 0 1 = cc in omega arith
 
 window-plain : Plain (setWindow 8 ∷ [])
 window-plain = ((λ i c ik ck e. let z : _≡_ {A = ℕ} 0 1 = cc in omega arith), tt)
@@ -178,7 +189,7 @@ module _ (G : Call → Context → Outcome) (keeps : Keeps G) where
   opens : (ks : List Call) → Plain ks → (c : ℕ) → c < 256
       → Opens G 0 x ks (λ c′. fits (contextAfter G x ks .core) c′ 1 0 2 (message c) ≡ true) (G (opening c) (contextAfter G x ks)) c one one
   opens ks plain c h =
-      kept ks plain .opens Uplink ThreeGpp (x .core) 1 c one one (kept ks plain .keys (plain-never G (λ i. Unit {0}) x ks plain)) (omega arith) (omega arith) (omega arith) (omega arith) (omega arith) (omega arith)
+      kept ks plain .opens Uplink ThreeGpp (x .core) 1 c one one one (kept ks plain .keys (plain-never G (λ i. Unit {0}) x ks plain)) (omega arith) (omega arith) (omega arith) (omega arith) (omega arith) (omega arith) (λ e f. omega arith)
 
   -- where nothing lies below next, a COUNT ahead is taken
   taken : (ks : List Call) → Plain ks → (c : ℕ) → c < 256 → nextAt (contextAfter G x ks) 0 ≡ 0 → ((c′ : ℕ) → StillOpen G 0 x ks c′ → ⊥)
@@ -189,7 +200,7 @@ module _ (G : Call → Context → Outcome) (keeps : Keeps G) where
   taken-first c h = taken [] tt c h refl (λ c′ s. s .1)
 
   refused : RefusesAll G → ⊥
-  refused r = clash (taken-first 0 (omega arith) .uses) (r x Uplink ThreeGpp (message 0) one)
+  refused r = clash (taken-first 0 (omega arith) .uses) (r x Uplink ThreeGpp (message 0) one one)
 
   -- the COUNT 0 taken twice
   abbrev again : List Call
@@ -201,12 +212,12 @@ module _ (G : Call → Context → Outcome) (keeps : Keeps G) where
 
   still : LeavesStill G → ⊥
   still r =
-      let e : contextAfter G x (opening 0 ∷ []) ≡ x = r x Uplink ThreeGpp (message 0) one in
+      let e : contextAfter G x (opening 0 ∷ []) ≡ x = r x Uplink ThreeGpp (message 0) one one in
       let n : nextAt (contextAfter G x (opening 0 ∷ [])) 0 ≡ 0 = ap (λ (y : Context). nextAt y 0) e in
       let a = used-at [] 0 (taken-first 0 (omega arith)) in
-      let b = used-at (opening 0 ∷ []) 0 (taken (opening 0 ∷ []) (open-plain (message 0) one, tt) 0 (omega arith) n (λ c s. let w = s .1 .0 .under in omega arith)) in
+      let b = used-at (opening 0 ∷ []) 0 (taken (opening 0 ∷ []) (open-plain (message 0) one one, tt) 0 (omega arith) n (λ c s. let w = s .1 .0 .under in omega arith)) in
       let l : countsUsed G 0 x again ≡ 0 ∷ 0 ∷ [] = rw (a, b) in
-      let t : NoneTwice (0 ∷ 0 ∷ []) = subst NoneTwice l (kept again (open-plain (message 0) one, (open-plain (message 0) one, tt)) .once Uplink ThreeGpp) in
+      let t : NoneTwice (0 ∷ 0 ∷ []) = subst NoneTwice l (kept again (open-plain (message 0) one one, (open-plain (message 0) one one, tt)) .once Uplink ThreeGpp) in
       t .0 (inl refl)
 
   -- P6: window 8, the message for COUNT 5, then the one for COUNT 3
@@ -218,11 +229,11 @@ module _ (G : Call → Context → Outcome) (keeps : Keeps G) where
       let w = s .sized x fresh in
       let n : nextAt (contextAfter G x (setWindow 8 ∷ [])) 0 ≡ 0 = w .0 in
       let t = taken (setWindow 8 ∷ []) window-plain 5 (omega arith) n (λ c h. let u = h .1 .0 .under in omega arith) in
-      let m = s .moved x fresh (message 5) one (t .uses) (t .count) in
+      let m = s .moved x fresh (message 5) one one (t .uses) (t .count) in
       let l : countsUsed G 0 x p6 ≡ 5 ∷ [] = rw (used-at (setWindow 8 ∷ []) 5 t) in
       let unused : In 3 (countsUsed G 0 x p6) → ⊥ = λ i. not-five (subst (In 3) l i) in
-      let e = opens p6 (open-plain (message 5) one, window-plain) 3 (omega arith) .exactly .1 (inl (unused, (record { under = omega arith; near = omega arith }, inl (omega arith, omega arith)))) in
-      let q = r x fresh (message 3) one (e .uses) in
+      let e = opens p6 (open-plain (message 5) one one, window-plain) 3 (omega arith) .exactly .1 (inl (unused, (record { under = omega arith; near = omega arith }, inl (omega arith, omega arith)))) in
+      let q = r x fresh (message 3) one one (e .uses) in
       omega (arith, e .count, m .0)
     where
       not-five : In 3 (5 ∷ []) → ⊥
@@ -245,7 +256,7 @@ as-next G r e =
     let p = recordAt (r .x) (placeOf (r .d) (r .k)) in
     ⊎-elim (late-below (r .x .core .size) p (getD (r .m) 6 0))
     (λ h. r .other (ahead-ends (wraps (r .x .core)) p (getD (r .m) 6 0) h))
-    (e (r .x) .opens (r .d) (r .k) (r .m) (r .out) (nextAt (r .x) (placeOf (r .d) (r .k))) (r .uses) .0)
+    (e (r .x) .opens (r .d) (r .k) (r .m) (r .out) (r .out2) (nextAt (r .x) (placeOf (r .d) (r .k))) (r .uses) .0)
 
 -- the calls themselves are as in P6
 window-set : (x : Context) → Fresh x → gives (setWindow 8) x ≡ passes (setWindow 8) x
@@ -266,12 +277,12 @@ used-five (uses round c) s v e n = absurd v
 used-five (resize m) s v e n = let z : _≡_ {A = ℕ} 0 1 = cc in absurd (omega arith)
 used-five close s v e n = absurd v
 
-moved : (x : Context) → Fresh x → (m out : List ℕ)
-    → let o = gives (open5gs Uplink ThreeGpp m out) (gives (setWindow 8) x .context) in
+moved : (x : Context) → Fresh x → (m out out2 : List ℕ)
+    → let o = gives (open5gs Uplink ThreeGpp m out out2) (gives (setWindow 8) x .context) in
     o .values .uses ≡ true → o .values .count ≡ 5 → (nextAt (o .context) 0 ≡ 6) × (o .context .core .size ≡ 8)
-moved x f m out u e =
+moved x f m out out2 u e =
     let y = gives (setWindow 8) x .context in
-    let k = open5gs Uplink ThreeGpp m out in
+    let k = open5gs Uplink ThreeGpp m out out2 in
     let s = started x f in
     let g = guarded-now x (s .beginning) (setWindow 8 ∷ []) (plain-never gives (λ i. i ≡ 0) x (setWindow 8 ∷ []) window-plain) .good in
     let w = sized x f in
@@ -282,7 +293,7 @@ moved x f m out u e =
 -- P6 over the calls
 module _ (x : Context) (f : Fresh x) where
   abbrev five : Call
-  five = open5gs Uplink ThreeGpp (envelope (x .core) 1 5 1 0 one) one
+  five = open5gs Uplink ThreeGpp (envelope (x .core) 1 5 1 0 one) one one
 
   abbrev wide : Context
   wide = gives (setWindow 8) x .context
@@ -291,7 +302,7 @@ module _ (x : Context) (f : Fresh x) where
   five-taken =
       let n = sized x f .0 in
       let d = keeps x (begun f) (setWindow 8 ∷ []) (plain-never gives (λ i. i ≡ 0) x (setWindow 8 ∷ []) window-plain) in
-      d .opens Uplink ThreeGpp (x .core) 1 5 one one (d .keys (plain-never gives (λ i. Unit {0}) x (setWindow 8 ∷ []) window-plain)) (omega arith) (omega arith) (omega arith) (omega arith) (omega arith) (omega arith)
+      d .opens Uplink ThreeGpp (x .core) 1 5 one one one (d .keys (plain-never gives (λ i. Unit {0}) x (setWindow 8 ∷ []) window-plain)) (omega arith) (omega arith) (omega arith) (omega arith) (omega arith) (omega arith) (λ e f. omega arith)
       .exactly .1 (inr ((omega arith, omega arith), λ c s q h. let w = s .1 .0 .under in omega arith))
 
   p6-counts : countsUsed gives 0 x (p6Calls x) ≡ 5 ∷ []
@@ -300,7 +311,7 @@ module _ (x : Context) (f : Fresh x) where
   p6-still : (c : ℕ) → c ≤ 4 → StillOpen gives 0 x (p6Calls x) c
   p6-still c h =
       let n = sized x f .0 in
-      let m = moved x f (envelope (x .core) 1 5 1 0 one) one (five-taken .uses) (five-taken .count) in
+      let m = moved x f (envelope (x .core) 1 5 1 0 one) one one (five-taken .uses) (five-taken .count) in
       ((λ i. unused (subst (In c) p6-counts i)), (record { under = omega arith; near = omega arith }, inl (omega arith, omega arith)))
     where
       unused : In c (5 ∷ []) → ⊥
@@ -314,13 +325,13 @@ changes = refl
 pub tightness : Tightness
 tightness =
     record {
-      p6-late = λ x f. (moved x f (envelope (x .core) 1 5 1 0 one) one (five-taken x f .uses) (five-taken x f .count) .0, p6-still x f);
+      p6-late = λ x f. (moved x f (envelope (x .core) 1 5 1 0 one) one one (five-taken x f .uses) (five-taken x f .count) .0, p6-still x f);
       refuses-all = λ G r k. refused G k r;
       opens-as-next = as-next;
       leaves-still = λ G r k. still G k r;
       p6 = record { sized = sized; moved = moved };
       never-late = λ G s r k. late G k s r;
-      invents = λ G r e. clash (e (r .x) .opens (r .d) (r .k) (r .m) (r .out) (r .c) (r .uses) .1) (r .unfit);
+      invents = λ G r e. clash (e (r .x) .opens (r .d) (r .k) (r .m) (r .out) (r .out2) (r .c) (r .uses) .1) (r .unfit);
       copies = λ c.
           let e : _≡_ {A = List ℕ} (0x66 ∷ []) (0 ∷ []) = sym changes ∙ c zeros 0 0 0 (0 ∷ []) in
           let z : _≡_ {A = ℕ} 0x66 0 = cc in omega arith;

@@ -1,4 +1,4 @@
--- Every public call with its arguments, and what it answers, hands back and leaves in the lent output: the definitions that the calls' contracts cite.
+-- Every public call with its arguments, and what it answers, hands back and leaves in the lent outputs: the definitions that the calls' contracts cite.
 -- Crate covers calls each function and proves that it leaves what stands here, from the function's contract alone.
 use Prim.Native.Nat.{ℕ}
 use mathlib.Core.Bool.{cond}
@@ -6,11 +6,13 @@ use mathlib.Core.List.{List, [], _∷_, _++_}
 use lib.Dec.{eqb}
 use Rattle.nas_5gs.specs.declared.Context.{Context}
 use Rattle.nas_5gs.specs.declared.Direction.{Direction}
+use Rattle.nas_5gs.specs.declared.Direction.the-variants.{Uplink}
 use Rattle.nas_5gs.specs.declared.Connection.{Connection}
 use Rattle.nas_5gs.specs.Places.{placeOf, nextAt}
-use Rattle.nas_5gs.specs.Leaves.{changeValues, useValues, openValues, epsOpenValues, octetValues, verifyValues}
+use Rattle.nas_5gs.specs.Leaves.{Leaves, leaves, LeavesTwo, leavesTwo, changeValues, useValues, openValues, epsOpenValues, octetValues, verifyValues}
 use Rattle.nas_5gs.specs.Changes.{newOf, restoreOf, reselectOf, windowOf}
 use Rattle.nas_5gs.specs.Seal.{sealOf, sealOpaqueOf}
+use Rattle.nas_5gs.specs.Initial.{initialOf}
 use Rattle.nas_5gs.specs.Open.{openOf}
 use Rattle.nas_5gs.specs.Eps.{epsPlace, sealEpsOf, openEpsOf}
 use Rattle.nas_5gs.specs.Containers.{containerPlace, n1ToS1Of, verifyN1ToS1Of, s1ToN1Of, verifyS1ToN1Of}
@@ -25,8 +27,10 @@ pub data Call : Type 0 where
   reselect : ℕ → ℕ → List ℕ → List ℕ → Call
   -- header type, direction, connection, inner octets
   seal5gs sealOpaque : ℕ → Direction → Connection → List ℕ → List ℕ → Call
-  -- direction, connection, message
-  open5gs : Direction → Connection → List ℕ → List ℕ → Call
+  -- connection, the whole initial message
+  sealInitial : Connection → List ℕ → List ℕ → Call
+  -- direction, connection, message; the second lent output stands last
+  open5gs : Direction → Connection → List ℕ → List ℕ → List ℕ → Call
   -- inner octets; message
   sealEps openEps : List ℕ → List ℕ → Call
   makeN1ToS1 : Call
@@ -50,18 +54,41 @@ pub data Reading : Type 0 where
 abbrev pub Outcome : Type 0
 Outcome = OutcomeOf Context
 
+-- what a call with two outputs leaves: all but the second, and the second
+abbrev pub firstOf : {A : Type 0} → LeavesTwo A → Leaves A
+firstOf (leavesTwo a x out out2) = leaves a x out
+
+abbrev pub secondOf : {A : Type 0} → LeavesTwo A → List ℕ
+secondOf (leavesTwo a x out out2) = out2
+
 abbrev pub gives : Call → Context → Outcome
 gives (setWindow n) x = outcome changeValues (windowOf x n)
 gives (reselect i c ik ck) x = outcome changeValues (reselectOf x i c ik ck)
 gives (seal5gs t d k inner out) x = outcome useValues (sealOf x t d k inner out)
 gives (sealOpaque t d k inner out) x = outcome useValues (sealOpaqueOf x t d k inner out)
-gives (open5gs d k m out) x = outcome openValues (openOf x d k m out)
+gives (sealInitial k w out) x = outcome useValues (initialOf x k w out)
+gives (open5gs d k m out out2) x = outcome openValues (firstOf (openOf x d k m out out2))
 gives (sealEps inner out) x = outcome useValues (sealEpsOf x inner out)
 gives (openEps m out) x = outcome epsOpenValues (openEpsOf x m out)
 gives makeN1ToS1 x = outcome octetValues (n1ToS1Of x)
 gives (verifyN1ToS1 s) x = outcome verifyValues (verifyN1ToS1Of x s)
 gives (makeS1ToN1 ncc ngksi out) x = outcome useValues (s1ToN1Of x ncc ngksi out)
 gives (verifyS1ToN1 v) x = outcome useValues (verifyS1ToN1Of x v)
+
+-- what then stands in the second output: no octets where none is lent
+abbrev pub second : Call → Context → List ℕ
+second (setWindow n) x = []
+second (reselect i c ik ck) x = []
+second (seal5gs t d k inner out) x = []
+second (sealOpaque t d k inner out) x = []
+second (sealInitial k w out) x = []
+second (open5gs d k m out out2) x = secondOf (openOf x d k m out out2)
+second (sealEps inner out) x = []
+second (openEps m out) x = []
+second makeN1ToS1 x = []
+second (verifyN1ToS1 s) x = []
+second (makeS1ToN1 ncc ngksi out) x = []
+second (verifyS1ToN1 v) x = []
 
 abbrev pub makes : Making → Outcome
 makes (create i c ik ck) = outcome changeValues (newOf i c ik ck)
@@ -73,13 +100,14 @@ reads window x = x .core .size
 reads integrity x = x .core .integrity
 reads ciphering x = x .core .ciphering
 
--- the output that is lent
+-- the output that is lent, and the second one
 abbrev pub lent : Call → List ℕ
 lent (setWindow n) = []
 lent (reselect i c ik ck) = []
 lent (seal5gs t d k inner out) = out
 lent (sealOpaque t d k inner out) = out
-lent (open5gs d k m out) = out
+lent (sealInitial k w out) = out
+lent (open5gs d k m out out2) = out
 lent (sealEps inner out) = out
 lent (openEps m out) = out
 lent makeN1ToS1 = []
@@ -87,13 +115,28 @@ lent (verifyN1ToS1 s) = []
 lent (makeS1ToN1 ncc ngksi out) = out
 lent (verifyS1ToN1 v) = []
 
+abbrev pub lentSecond : Call → List ℕ
+lentSecond (setWindow n) = []
+lentSecond (reselect i c ik ck) = []
+lentSecond (seal5gs t d k inner out) = []
+lentSecond (sealOpaque t d k inner out) = []
+lentSecond (sealInitial k w out) = []
+lentSecond (open5gs d k m out out2) = out2
+lentSecond (sealEps inner out) = []
+lentSecond (openEps m out) = []
+lentSecond makeN1ToS1 = []
+lentSecond (verifyN1ToS1 s) = []
+lentSecond (makeS1ToN1 ncc ngksi out) = []
+lentSecond (verifyS1ToN1 v) = []
+
 -- The place of the record that a call works on: 0 to 3, and 4, no record, for window size and reselection, which are of all four.
 abbrev pub placeIn : Call → ℕ
 placeIn (setWindow n) = 4
 placeIn (reselect i c ik ck) = 4
 placeIn (seal5gs t d k inner out) = placeOf d k
 placeIn (sealOpaque t d k inner out) = placeOf d k
-placeIn (open5gs d k m out) = placeOf d k
+placeIn (sealInitial k w out) = placeOf Uplink k
+placeIn (open5gs d k m out out2) = placeOf d k
 placeIn (sealEps inner out) = epsPlace
 placeIn (openEps m out) = epsPlace
 placeIn makeN1ToS1 = containerPlace

@@ -20,17 +20,20 @@ use Rattle.nas_5gs.specs.Places.{directionNo, bearerNo, placeOf, faultOf, used,
 use Rattle.nas_5gs.specs.Leaves.{over, refusal, success}
 use Rattle.nas_5gs.specs.Changes.{coreWith, contextWith, refusedContext, keptFor, resized}
 use Rattle.nas_5gs.specs.Envelope.{ciphers}
-use Rattle.nas_5gs.specs.Open.{typeOf}
+use Rattle.initial.specs.Inside.{Hidden}
+use Rattle.envelope.specs.Initial.{besideOf, beside}
+use Rattle.nas_5gs.specs.Open.{typeOf, insideNumber}
 use Rattle.nas_5gs.specs.Eps.{epsPlace}
-use Rattle.promises.specs.Calls.{Call, setWindow, reselect, seal5gs, sealOpaque, open5gs, sealEps, openEps, makeN1ToS1, verifyN1ToS1, makeS1ToN1, verifyS1ToN1, create, restore, Outcome, gives, makes, lent, placeIn}
+use Rattle.promises.specs.Calls.{Call, setWindow, reselect, seal5gs, sealOpaque, sealInitial, open5gs, sealEps, openEps, makeN1ToS1, verifyN1ToS1, makeS1ToN1, verifyS1ToN1, create, restore, Outcome, gives, second, makes, lent, lentSecond, placeIn}
 
--- "Order, 5GS open: under 7, 2, 3, exactly 7, 4, 5, 6 or 7, 8. EPS open: 1, 2, 4, 5, 6 or 7, 8. Seal: 9, 3, 10, 11, 4, 5, 6. .."
+-- "Order, 5GS open: under 7, 2, 3, exactly 7, 4, 5, 6 or 7, 8. EPS open: 1, 2, 4, 5, 6 or 7, 8. Seal: 9, 3, 10, 11, 4, 5, 6. .."; "Initial seal: 9, 18, 4, 5, 6"
 abbrev pub ownNumbers : Call → List ℕ
 ownNumbers (setWindow n) = 14 ∷ []
 ownNumbers (reselect i c ik ck) = 13 ∷ []
 ownNumbers (seal5gs t d k inner out) = 9 ∷ 3 ∷ 10 ∷ 11 ∷ 4 ∷ 5 ∷ 6 ∷ []
 ownNumbers (sealOpaque t d k inner out) = 3 ∷ 4 ∷ 5 ∷ 6 ∷ []
-ownNumbers (open5gs d k m out) = 1 ∷ 2 ∷ 3 ∷ 4 ∷ 5 ∷ 6 ∷ 7 ∷ 8 ∷ []
+ownNumbers (sealInitial k w out) = 9 ∷ 18 ∷ 4 ∷ 5 ∷ 6 ∷ []
+ownNumbers (open5gs d k m out out2) = 1 ∷ 2 ∷ 3 ∷ 4 ∷ 5 ∷ 6 ∷ 7 ∷ 8 ∷ []
 ownNumbers (sealEps inner out) = 12 ∷ 4 ∷ 5 ∷ 6 ∷ []
 ownNumbers (openEps m out) = 1 ∷ 2 ∷ 4 ∷ 5 ∷ 6 ∷ 7 ∷ 8 ∷ []
 ownNumbers makeN1ToS1 = 6 ∷ []
@@ -54,6 +57,12 @@ pub record Demand1 (k : Call) (x : Context) : Type 0 where
   pub behind : let o = gives k x in drop (o .values .wrote) (o .output) ≡ drop (o .values .wrote) (lent k)
   pub room : length (gives k x .output) ≡ length (lent k)
   pub within : gives k x .values .wrote ≤ length (lent k)
+  -- ".. holds of both outputs"
+  pub behind-second : let n = gives k x .values .second in drop n (second k x) ≡ drop n (lentSecond k)
+  pub room-second : length (second k x) ≡ length (lentSecond k)
+  pub within-second : gives k x .values .second ≤ length (lentSecond k)
+  -- no refusal writes to the second one: "with every 8 it is 0"
+  pub untouched : let o = gives k x in (o .values .number ≡ 0 → ⊥) → (o .values .second ≡ 0) × (second k x ≡ lentSecond k)
   -- "A context that holds an unbuilt code, a size above 64 or a next COUNT above 16,777,216 gets 13, 14 or 16 before all else"
   pub fault : (faultOf x ≡ 0 → ⊥) → gives k x .values ≡ refusal (faultOf x)
 
@@ -63,7 +72,8 @@ MayBeLate (setWindow n) = ⊥
 MayBeLate (reselect i c ik ck) = ⊥
 MayBeLate (seal5gs t d k inner out) = ⊥
 MayBeLate (sealOpaque t d k inner out) = ⊥
-MayBeLate (open5gs d k m out) = Unit {0}
+MayBeLate (sealInitial k w out) = ⊥
+MayBeLate (open5gs d k m out out2) = Unit {0}
 MayBeLate (sealEps inner out) = ⊥
 MayBeLate (openEps m out) = Unit {0}
 MayBeLate makeN1ToS1 = ⊥
@@ -91,18 +101,28 @@ Opened o = (o .values .number ≡ 0) ⊎ (o .values .number ≡ 8)
 abbrev pub plain5gs : Context → Direction → Connection → List ℕ → ℕ → List ℕ
 plain5gs x d k m c = payload (x .core) (ciphers (typeOf m)) c (bearerNo k) (directionNo d) (drop 7 m)
 
+-- what is inside it
+abbrev pub inside5gs : Context → Direction → Connection → List ℕ → ℕ → Hidden
+inside5gs x d k m c = besideOf (x .core) (typeOf m) c (bearerNo k) (directionNo d) (plain5gs x d k m c)
+
 pub record Demand1Open (x : Context) : Type 0 where
-  pub opens : (d : Direction) (k : Connection) (m out : List ℕ)
-      → let o = gives (open5gs d k m out) x in Opened o → HandsOver x (placeOf d k) (plain5gs x d k m) out o
-  -- "and a 5GS open the header type too; 8 answers the same and the number it carries": 9, 10 or 11
-  pub tells : (d : Direction) (k : Connection) (m out : List ℕ)
-      → let o = gives (open5gs d k m out) x in
+  pub opens : (d : Direction) (k : Connection) (m out out2 : List ℕ)
+      → let o = gives (open5gs d k m out out2) x in Opened o → HandsOver x (placeOf d k) (plain5gs x d k m) out o
+  -- "and a 5GS open the header type too; 8 answers the same and the number it carries": the look's, then 18
+  pub tells : (d : Direction) (k : Connection) (m out out2 : List ℕ)
+      → let o = gives (open5gs d k m out out2) x in
       Opened o
-      → (o .values .header ≡ typeOf m) × (o .values .carried ≡ lookOf (typeOf m) (directionNo d) (plain5gs x d k m (o .values .count)))
-  pub wrote : (d : Direction) (k : Connection) (m out : List ℕ)
-      → let o = gives (open5gs d k m out) x in Opened o → o .values .wrote ≡ length m - 7
-  pub carries : (d : Direction) (k : Connection) (m out : List ℕ)
-      → let o = gives (open5gs d k m out) x in o .values .number ≡ 8 → In (o .values .carried) (9 ∷ 10 ∷ 11 ∷ [])
+      → (o .values .header ≡ typeOf m)
+      × (o .values .carried ≡ insideNumber (lookOf (typeOf m) (directionNo d) (plain5gs x d k m (o .values .count))) (inside5gs x d k m (o .values .count)))
+  pub wrote : (d : Direction) (k : Connection) (m out out2 : List ℕ)
+      → let o = gives (open5gs d k m out out2) x in Opened o → o .values .wrote ≡ length m - 7
+  pub carries : (d : Direction) (k : Connection) (m out out2 : List ℕ)
+      → let o = gives (open5gs d k m out out2) x in o .values .number ≡ 8 → In (o .values .carried) (9 ∷ 10 ∷ 11 ∷ 18 ∷ [])
+  -- "Then success, and q is written to the front of the second output": the container's message, deciphered with the COUNT that was used
+  pub inside : (d : Direction) (k : Connection) (m out out2 : List ℕ)
+      → let o = gives (open5gs d k m out out2) x in
+      let q = beside (inside5gs x d k m (o .values .count)) in
+      Opened o → (o .values .second ≡ length q) × (second (open5gs d k m out out2) x ≡ over q out2)
   pub opens-eps : (m out : List ℕ) → let o = gives (openEps m out) x in Opened o → HandsOver x epsPlace (λ c. drop 6 m) out o
   pub carries-eps : (m out : List ℕ) → let o = gives (openEps m out) x in o .values .number ≡ 8 → o .values .carried ≡ 12
 

@@ -14,22 +14,27 @@ use Rattle.nas_core.specs.Refusals.{limit}
 use Rattle.nas_core.specs.Verify.{same, fits}
 use Rattle.look.specs.Look.{lookOf}
 use Rattle.nas_5gs.specs.declared.Context.{Context}
+use Rattle.initial.specs.Messages.{isInitial}
+use Rattle.initial.specs.Outer.{isHideable, hides, outerLength}
+use Rattle.initial.specs.Inside.{isAsked, endsIn18}
+use Rattle.envelope.specs.Initial.{outgoing, initialEnvelope}
 use Rattle.nas_5gs.specs.declared.Direction.{Direction}
+use Rattle.nas_5gs.specs.declared.Direction.the-variants.{Uplink}
 use Rattle.nas_5gs.specs.declared.Connection.{Connection}
 use Rattle.nas_5gs.specs.Places.{directionNo, bearerNo, placeOf, recordAt, nextAt, faultOf}
-use Rattle.nas_5gs.specs.Leaves.{refusal}
+use Rattle.nas_5gs.specs.Leaves.{over, refusal}
 use Rattle.nas_5gs.specs.Envelope.{envelope}
 use Rattle.nas_5gs.specs.Eps.{epsPlace, epsBearer, epsDirection, notEps, epsMessage}
 use Rattle.nas_5gs.specs.Containers.{containerPlace, containerBearer, containerDirection, s1Count, s1ToN1}
-use Rattle.promises.specs.Calls.{Call, Outcome, seal5gs, sealOpaque, open5gs, sealEps, openEps, makeN1ToS1, verifyN1ToS1, makeS1ToN1, verifyS1ToN1, gives}
+use Rattle.promises.specs.Calls.{Call, Outcome, seal5gs, sealOpaque, sealInitial, open5gs, sealEps, openEps, makeN1ToS1, verifyN1ToS1, makeS1ToN1, verifyS1ToN1, gives, second}
 use Rattle.promises.specs.Words.{SameKeys, Ahead, Succeeds, Uses, written, TakenAs}
 
--- octets can be sent behind a header: a context without fault, a COUNT to send, octets within the limit, room for both
-pub record CanSend (z : Context) (p header : ℕ) (inner out : List ℕ) : Type 0 where
+-- n octets can be sent behind a header: a context without fault, a COUNT to send, octets within the limit, room for both
+pub record CanSend (z : Context) (p header n : ℕ) (out : List ℕ) : Type 0 where
   pub faultless : faultOf z ≡ 0
   pub count : nextAt z p < exhausted
-  pub short : length inner ≤ limit
-  pub room : header + length inner ≤ length out
+  pub short : n ≤ limit
+  pub room : header + n ≤ length out
 
 -- what verifying S1-to-N1 asks of a value: "compares the four bits of each algorithm", and the code "over everything from the fifth octet"
 pub record Passes (x : Context) (v : List ℕ) : Type 0 where
@@ -44,10 +49,14 @@ pub record Passes (x : Context) (v : List ℕ) : Type 0 where
 -- A seal or a container call succeeds exactly when nothing that document 01 refuses stands against it.
 pub record Accepts (z : Context) : Type 0 where
   pub opaque : (t : ℕ) (d : Direction) (k : Connection) (inner out : List ℕ)
-      → Succeeds (gives (sealOpaque t d k inner out) z) ↔ (CanSend z (placeOf d k) 7 inner out × (1 ≤ t) × (t ≤ 4))
+      → Succeeds (gives (sealOpaque t d k inner out) z) ↔ (CanSend z (placeOf d k) 7 (length inner) out × (1 ≤ t) × (t ≤ 4))
   pub seal : (t : ℕ) (d : Direction) (k : Connection) (inner out : List ℕ)
-      → Succeeds (gives (seal5gs t d k inner out) z) ↔ (CanSend z (placeOf d k) 7 inner out × (1 ≤ t) × (t ≤ 4) × (lookOf t (directionNo d) inner ≡ 0))
-  pub eps : (inner out : List ℕ) → Succeeds (gives (sealEps inner out) z) ↔ (CanSend z epsPlace 6 inner out × (notEps inner ≡ false))
+      → Succeeds (gives (seal5gs t d k inner out) z) ↔ (CanSend z (placeOf d k) 7 (length inner) out × (1 ≤ t) × (t ≤ 4) × (lookOf t (directionNo d) inner ≡ 0))
+  -- an initial message that is walked to its end and has no container; what goes out is what is sent
+  pub initial : (k : Connection) (w out : List ℕ)
+      → Succeeds (gives (sealInitial k w out) z)
+      ↔ (CanSend z (placeOf Uplink k) 7 (outerLength w) out × (isInitial w ≡ true) × (isHideable w ≡ true))
+  pub eps : (inner out : List ℕ) → Succeeds (gives (sealEps inner out) z) ↔ (CanSend z epsPlace 6 (length inner) out × (notEps inner ≡ false))
   pub s1ToN1 : (ncc ngksi : ℕ) (out : List ℕ)
       → Succeeds (gives (makeS1ToN1 ncc ngksi out) z)
       ↔ ((faultOf z ≡ 0) × (ncc ≤ 7) × (ngksi ≤ 15) × (8 ≤ length out) × (nextAt z containerPlace < exhausted))
@@ -72,6 +81,12 @@ pub record Writes (z : Context) : Type 0 where
       → Uses s (nextAt z (placeOf d k))
       × (written s ≡ envelope (z .core) t (s .values .count) (bearerNo k) (directionNo d) inner)
       × (s .values .wrote ≡ 7 + length inner)
+  pub initial : (k : Connection) (w out : List ℕ)
+      → let s = gives (sealInitial k w out) z in
+      Succeeds s
+      → Uses s (nextAt z (placeOf Uplink k))
+      × (written s ≡ initialEnvelope (z .core) (s .values .count) (bearerNo k) w)
+      × (s .values .wrote ≡ 7 + outerLength w)
   pub eps : (inner out : List ℕ)
       → let s = gives (sealEps inner out) z in
       Succeeds s → Uses s (nextAt z epsPlace) × (written s ≡ epsMessage (z .core) (s .values .count) inner) × (s .values .wrote ≡ 6 + length inner)
@@ -82,16 +97,41 @@ pub record Writes (z : Context) : Type 0 where
   pub n1ToS1 : let s = gives makeN1ToS1 z in
       Succeeds s → Uses s (nextAt z containerPlace) × (s .values .octet ≡ s .values .count % 256) × (s .values .wrote ≡ 0)
 
+-- when opening what an ordinary seal made ends in 8 carrying 18: an initial message under header type 1, uplink, of which "the walk of its octets fails, or
+-- their container deciphered with that COUNT is no message of their type"
+abbrev pub EndsIn18 : Context → ℕ → Direction → Connection → ℕ → List ℕ → Type 0
+EndsIn18 x t d k c inner =
+    (isAsked t (directionNo d) inner ≡ true) × (endsIn18 (λ v. payload (x .core) true c (bearerNo k) 0 v) inner ≡ true)
+
+-- "If |w| > M: the second output's front is w, its number |w| .. If |w| = M: the first output's front is w, the second number is 0."
+pub record HandsWhole (w : List ℕ) (o : Outcome) (then : List ℕ) (room room2 : List ℕ) : Type 0 where
+  pub in-second : hides w ≡ true → (o .values .second ≡ length w) × (then ≡ over w room2)
+  pub in-first : hides w ≡ false → (o .values .second ≡ 0) × (o .values .wrote ≡ length w) × (o .output ≡ over w room) × (then ≡ room2)
+
 -- "Sealing then opening returns the inner octets": with an opener that uses that COUNT, which demand 3 says when it does.
 pub record RoundTrip (z x : Context) : Type 0 where
-  pub seal : (t : ℕ) (d : Direction) (k : Connection) (inner out room : List ℕ)
+  -- "it ends so if and only if ..; else it is a success"
+  pub seal : (t : ℕ) (d : Direction) (k : Connection) (inner out room room2 : List ℕ)
       → let s = gives (seal5gs t d k inner out) z in
-      let o = gives (open5gs d k (written s) room) x in
-      Succeeds s → Uses o (s .values .count) → Succeeds o × (o .values .header ≡ t) × TakenAs o (s .values .count) inner room
+      let o = gives (open5gs d k (written s) room room2) x in
+      Succeeds s → Uses o (s .values .count)
+      → (o .values .header ≡ t)
+      × TakenAs o (s .values .count) inner room
+      × (EndsIn18 x t d k (s .values .count) inner → (o .values .number ≡ 8) × (o .values .carried ≡ 18))
+      × ((EndsIn18 x t d k (s .values .count) inner → ⊥) → Succeeds o)
+  -- the first output has the message that went out
+  pub initial : (k : Connection) (w out room room2 : List ℕ)
+      → let s = gives (sealInitial k w out) z in
+      let o = gives (open5gs Uplink k (written s) room room2) x in
+      Succeeds s → Uses o (s .values .count)
+      → Succeeds o
+      × (o .values .header ≡ 1)
+      × TakenAs o (s .values .count) (outgoing (z .core) (s .values .count) (bearerNo k) w) room
+      × HandsWhole w o (second (open5gs Uplink k (written s) room room2) x) room room2
   -- "after an opaque seal it may end in 8 with the same octets"
-  pub opaque : (t : ℕ) (d : Direction) (k : Connection) (inner out room : List ℕ)
+  pub opaque : (t : ℕ) (d : Direction) (k : Connection) (inner out room room2 : List ℕ)
       → let s = gives (sealOpaque t d k inner out) z in
-      let o = gives (open5gs d k (written s) room) x in
+      let o = gives (open5gs d k (written s) room room2) x in
       Succeeds s → Uses o (s .values .count) → (o .values .header ≡ t) × TakenAs o (s .values .count) inner room
   pub eps : (inner out room : List ℕ)
       → let s = gives (sealEps inner out) z in
@@ -102,17 +142,19 @@ pub record RoundTrip (z x : Context) : Type 0 where
 pub record SealedNothing (z x : Context) : Type 0 where
   pub gives-7 : (t : ℕ) (d : Direction) (k : Connection) (out : List ℕ)
       → let s = gives (sealOpaque t d k [] out) z in Succeeds s → (s .values .wrote ≡ 7) × Uses s (nextAt z (placeOf d k))
-  pub refused : (t : ℕ) (d d′ : Direction) (k k′ : Connection) (out room : List ℕ)
+  pub refused : (t : ℕ) (d d′ : Direction) (k k′ : Connection) (out room room2 : List ℕ)
       → let s = gives (sealOpaque t d k [] out) z in
-      Succeeds s → faultOf x ≡ 0 → gives (open5gs d′ k′ (written s) room) x .values ≡ refusal 1
+      Succeeds s → faultOf x ≡ 0 → gives (open5gs d′ k′ (written s) room room2) x .values ≡ refusal 1
 
 -- What is said of the octets beside.
 pub record Octets (x : Context) : Type 0 where
   -- "Under ciphering code 0 no octet is changed."
   pub unchanged : x .core .ciphering ≡ 0 → (ciphered : Bool) (c b d : ℕ) (m : List ℕ) → payload (x .core) ciphered c b d m ≡ m
   -- "header type in the low half (the high half is ignored on opening, 0 on sealing)": sealing writes t itself
-  pub high-half : (d : Direction) (k : Connection) (h t : ℕ) (m out : List ℕ)
-      → gives (open5gs d k (0x7E ∷ (h * 16 + t) ∷ m) out) x ≡ gives (open5gs d k (0x7E ∷ t ∷ m) out) x
+  pub high-half : (d : Direction) (k : Connection) (h t : ℕ) (m out out2 : List ℕ)
+      → let k₁ = open5gs d k (0x7E ∷ (h * 16 + t) ∷ m) out out2 in
+      let k₂ = open5gs d k (0x7E ∷ t ∷ m) out out2 in
+      (gives k₁ x ≡ gives k₂ x) × (second k₁ x ≡ second k₂ x)
   -- "The code covers the last octet and the payload as sent, so not the header type."
   pub covers : (c b d t : ℕ) (m : List ℕ) → fits (x .core) c b d 2 (0x7E ∷ t ∷ m) ≡ (wraps (x .core) || same (take 4 m) (codeBy (x .core) c b d (drop 4 m)))
   -- "The code is over everything from the fifth octet"; "A longer value is verified whole."
@@ -146,9 +188,9 @@ pub record Twice (x : Context) (v : List ℕ) : Type 0 where
 
 -- A COUNT that an open call answers is a candidate of the COUNT rule for the last octet received, and the code received is right for it.
 pub record Estimates (G : Call → Context → Outcome) (x : Context) : Type 0 where
-  pub opens : (d : Direction) (k : Connection) (m out : List ℕ) (c : ℕ)
+  pub opens : (d : Direction) (k : Connection) (m out out2 : List ℕ) (c : ℕ)
       → let r = recordAt x (placeOf d k) in
-      Uses (G (open5gs d k m out) x) c
+      Uses (G (open5gs d k m out out2) x) c
       → ((lateOf 8 (x .core .size) r (getD m 6 0) ≡ At c) ⊎ (forwardOf 8 (wraps (x .core)) r (getD m 6 0) ≡ At c))
       × (fits (x .core) c (bearerNo k) (directionNo d) 2 m ≡ true)
   pub opens-eps : (m out : List ℕ) (c : ℕ)

@@ -18,6 +18,7 @@ use Rattle.nas_core.specs.Refusals.{limit}
 use Rattle.nas_core.specs.Verify.{fits}
 use Rattle.nas_5gs.specs.declared.Context.{Context}
 use Rattle.nas_5gs.specs.declared.Direction.{Direction}
+use Rattle.nas_5gs.specs.declared.Direction.the-variants.{Uplink}
 use Rattle.nas_5gs.specs.declared.Connection.{Connection}
 use Rattle.nas_5gs.specs.declared.ChangeAnswer.the-variants.{Done}
 use Rattle.nas_5gs.specs.Places.{directionNo, bearerNo, placeOf, nextAt}
@@ -100,12 +101,13 @@ module _ (G : Call → Context → Outcome) where
     pub once : (d : Direction) (k : Connection) → NoneTwice (countsUsed G (placeOf d k) x ks)
     -- the calls but reselection keep keys and codes
     pub keys : NeverReselected x ks → SameKeys (x .core) (contextAfter G x ks .core)
-    -- 5GS: y is the context that sealed the message, or any with the same keys and codes
-    pub opens : (d : Direction) (k : Connection) (y : Core) (t c : ℕ) (inner out : List ℕ)
+    -- 5GS: y is the context that sealed the message, or any with the same keys and codes. Under header type 1, uplink, both outputs have room
+    pub opens : (d : Direction) (k : Connection) (y : Core) (t c : ℕ) (inner out out2 : List ℕ)
         → let m = envelope y t c (bearerNo k) (directionNo d) inner in
         let now = contextAfter G x ks in
         SameKeys y (now .core) → 1 ≤ t → t ≤ 4 → c < exhausted → 1 ≤ length inner → length inner ≤ limit → length inner ≤ length out
-        → Opens (placeOf d k) x ks (λ c′. fits (now .core) c′ (bearerNo k) (directionNo d) 2 m ≡ true) (G (open5gs d k m out) now) c inner out
+        → (t ≡ 1 → d ≡ Uplink → length inner ≤ length out2)
+        → Opens (placeOf d k) x ks (λ c′. fits (now .core) c′ (bearerNo k) (directionNo d) 2 m ≡ true) (G (open5gs d k m out out2) now) c inner out
     -- EPS, on the uplink 3GPP record
     pub opens-eps : (y : Core) (c : ℕ) (inner out : List ℕ)
         → let m = epsMessage y c inner in

@@ -7,7 +7,7 @@ use Rattle.nas_5gs.specs.declared.Context.{Context}
 use Rattle.nas_5gs.specs.declared.Direction.{Direction}
 use Rattle.nas_5gs.specs.declared.Connection.{Connection}
 use Rattle.nas_5gs.specs.Places.{placeOf, recordAt}
-use Rattle.promises.specs.Calls.{Call, gives, placeIn, contextAfter}
+use Rattle.promises.specs.Calls.{Call, gives, second, placeIn, contextAfter}
 
 -- calls on records other than the one at p, none of them a new window size or a reselection
 abbrev pub Elsewhere : ℕ → List Call → Type 0
@@ -21,6 +21,7 @@ pub record Isolated (x : Context) (p : ℕ) (ks : List Call) : Type 0 where
   -- a call on it answers, and writes, what it would have without them
   pub answers : (k : Call) → placeIn k ≡ p → gives k (contextAfter gives x ks) .values ≡ gives k x .values
   pub writes : (k : Call) → placeIn k ≡ p → gives k (contextAfter gives x ks) .output ≡ gives k x .output
+  pub writes-second : (k : Call) → placeIn k ≡ p → second k (contextAfter gives x ks) ≡ second k x
 
 -- the four records are four
 abbrev pub Apart : Type 0

@@ -11,8 +11,8 @@ use Rattle.nas_core.specs.Refusals.{limit}
 use Rattle.nas_5gs.specs.declared.Context.{Context}
 use Rattle.nas_5gs.specs.declared.Direction.{Direction}
 use Rattle.nas_5gs.specs.declared.Connection.{Connection}
-use Rattle.nas_5gs.specs.Places.{placeOf, recordAt, nextAt, faultOf}
-use Rattle.nas_5gs.specs.Open.{openRefusal}
+use Rattle.nas_5gs.specs.Places.{directionNo, placeOf, recordAt, nextAt, faultOf}
+use Rattle.nas_5gs.specs.Open.{typeOf, openRefusal, roomFor}
 use Rattle.nas_5gs.specs.Eps.{epsPlace, openEpsRefusal}
 use Rattle.nas_5gs.specs.Containers.{containerPlace, otherAlgorithms}
 use Rattle.promises.specs.Calls.{Call, open5gs, openEps, verifyS1ToN1, gives, placeIn}
@@ -21,11 +21,13 @@ use Rattle.promises.specs.Words.{Succeeds, Uses}
 pub record NullIntegrity (x : Context) : Type 0 where
   pub code : (c b d : ℕ) (m : List ℕ) → codeBy (x .core) c b d m ≡ 0 ∷ 0 ∷ 0 ∷ 0 ∷ []
   -- a message that no earlier refusal stops is taken, whatever its code, as the candidate that goes round
-  pub passes : (d : Direction) (k : Connection) (m out : List ℕ)
+  pub passes : (d : Direction) (k : Connection) (m out out2 : List ℕ)
       → let n = nextAt x (placeOf d k) in
-      openRefusal x m (length out) ≡ 0 → n < exhausted → Uses (gives (open5gs d k m out) x) ((n + distance 8 n (getD m 6 0)) % exhausted)
-  pub stays-exhausted : (d : Direction) (k : Connection) (m out : List ℕ)
-      → openRefusal x m (length out) ≡ 0 → exhausted ≤ nextAt x (placeOf d k) → gives (open5gs d k m out) x .values .number ≡ 6
+      openRefusal x m (roomFor (typeOf m) (directionNo d) (length out) (length out2)) ≡ 0 → n < exhausted
+      → Uses (gives (open5gs d k m out out2) x) ((n + distance 8 n (getD m 6 0)) % exhausted)
+  pub stays-exhausted : (d : Direction) (k : Connection) (m out out2 : List ℕ)
+      → openRefusal x m (roomFor (typeOf m) (directionNo d) (length out) (length out2)) ≡ 0 → exhausted ≤ nextAt x (placeOf d k)
+      → gives (open5gs d k m out out2) x .values .number ≡ 6
   pub passes-eps : (m out : List ℕ)
       → let n = nextAt x epsPlace in
       openEpsRefusal x m (length out) ≡ 0 → n < exhausted → Uses (gives (openEps m out) x) ((n + distance 8 n (getD m 5 0)) % exhausted)

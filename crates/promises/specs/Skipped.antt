@@ -7,7 +7,7 @@ use mathlib.Core.Logic.{_⊎_}
 use Rattle.count.specs.Rule.{exhausted, distanceOf}
 use Rattle.nas_5gs.specs.declared.Context.{Context}
 use Rattle.nas_5gs.specs.Places.{recordAt, nextAt, used, usedLate}
-use Rattle.promises.specs.Calls.{Call, setWindow, reselect, seal5gs, sealOpaque, open5gs, sealEps, openEps, makeN1ToS1, verifyN1ToS1, makeS1ToN1, verifyS1ToN1, Outcome, gives, placeIn}
+use Rattle.promises.specs.Calls.{Call, setWindow, reselect, seal5gs, sealOpaque, sealInitial, open5gs, sealEps, openEps, makeN1ToS1, verifyN1ToS1, makeS1ToN1, verifyS1ToN1, Outcome, gives, placeIn}
 use Rattle.promises.specs.Demand1.{MayBeLate}
 
 -- the calls that tell a distance
@@ -16,7 +16,8 @@ Tells (setWindow n) = ⊥
 Tells (reselect i c ik ck) = ⊥
 Tells (seal5gs t d k inner out) = ⊥
 Tells (sealOpaque t d k inner out) = ⊥
-Tells (open5gs d k m out) = Unit {0}
+Tells (sealInitial k w out) = ⊥
+Tells (open5gs d k m out out2) = Unit {0}
 Tells (sealEps inner out) = ⊥
 Tells (openEps m out) = Unit {0}
 Tells makeN1ToS1 = ⊥

@@ -19,9 +19,9 @@ use Rattle.nas_5gs.specs.declared.OpenAnswer.{OpenAnswer}
 use Rattle.nas_5gs.specs.declared.EpsOpenAnswer.{EpsOpenAnswer}
 use Rattle.nas_5gs.specs.declared.OctetAnswer.{OctetAnswer}
 use Rattle.nas_5gs.specs.declared.VerifyAnswer.{VerifyAnswer}
-use Rattle.nas_5gs.specs.Leaves.{Leaves, Values, changeValues, useValues, openValues, epsOpenValues, octetValues, verifyValues}
+use Rattle.nas_5gs.specs.Leaves.{Leaves, LeavesTwo, Values, changeValues, useValues, openValues, epsOpenValues, octetValues, verifyValues}
 use Rattle.nas_5gs.specs.Envelope.{envelope}
-use Rattle.promises.specs.Calls.{Call, setWindow, seal5gs, sealOpaque, open5gs, sealEps, openEps, makeN1ToS1, verifyN1ToS1, makeS1ToN1, verifyS1ToN1, reselect, Making, Outcome, outcome, gives, makes, contextAfter}
+use Rattle.promises.specs.Calls.{Call, setWindow, seal5gs, sealOpaque, sealInitial, open5gs, sealEps, openEps, makeN1ToS1, verifyN1ToS1, makeS1ToN1, verifyS1ToN1, reselect, Making, Outcome, outcome, firstOf, secondOf, gives, second, makes, contextAfter}
 use Rattle.promises.specs.Words.{Uses}
 use Rattle.promises.specs.Demand2.{Estimates}
 use Rattle.promises.specs.Demand3.{Fresh, StillOpen, Keeps}
@@ -32,7 +32,8 @@ abbrev pub AnswerOf : Call → Type 0
 AnswerOf (setWindow n) = ChangeAnswer
 AnswerOf (seal5gs t d k inner out) = UseAnswer
 AnswerOf (sealOpaque t d k inner out) = UseAnswer
-AnswerOf (open5gs d k m out) = OpenAnswer
+AnswerOf (sealInitial k w out) = UseAnswer
+AnswerOf (open5gs d k m out out2) = OpenAnswer
 AnswerOf (sealEps inner out) = UseAnswer
 AnswerOf (openEps m out) = EpsOpenAnswer
 AnswerOf makeN1ToS1 = OctetAnswer
@@ -45,7 +46,8 @@ abbrev pub valuesOf : (k : Call) → AnswerOf k → Values
 valuesOf (setWindow n) = changeValues
 valuesOf (seal5gs t d k inner out) = useValues
 valuesOf (sealOpaque t d k inner out) = useValues
-valuesOf (open5gs d k m out) = openValues
+valuesOf (sealInitial k w out) = useValues
+valuesOf (open5gs d k m out out2) = openValues
 valuesOf (sealEps inner out) = useValues
 valuesOf (openEps m out) = epsOpenValues
 valuesOf makeN1ToS1 = octetValues
@@ -58,16 +60,23 @@ valuesOf (reselect i c ik ck) = changeValues
 abbrev pub Meets : (k : Call) → Context → Leaves (AnswerOf k) → Type 0
 Meets k x l = outcome (valuesOf k) l ≡ gives k x
 
+-- and a 5GS open, both outputs
+abbrev pub MeetsBoth : Direction → Connection → List ℕ → List ℕ → List ℕ → Context → LeavesTwo OpenAnswer → Type 0
+MeetsBoth d k m out out2 x l =
+    Meets (open5gs d k m out out2) x (firstOf l) × (secondOf l ≡ second (open5gs d k m out out2) x)
+
 abbrev pub MeetsMaking : Making → Leaves ChangeAnswer → Type 0
 MeetsMaking m l = outcome changeValues l ≡ makes m
 
 pub record OnlyOne : Type 0 where
   pub calls : (k : Call) (x : Context) (l l′ : Leaves (AnswerOf k)) → Meets k x l → Meets k x l′ → l ≡ l′
+  pub both : (d : Direction) (k : Connection) (m out out2 : List ℕ) (x : Context) (l l′ : LeavesTwo OpenAnswer)
+      → MeetsBoth d k m out out2 x l → MeetsBoth d k m out out2 x l′ → l ≡ l′
   pub makings : (m : Making) (l l′ : Leaves ChangeAnswer) → MeetsMaking m l → MeetsMaking m l′ → l ≡ l′
 
 -- what a 5GS open call of G answers
 abbrev Opens5gs : (Outcome → Context → Direction → Connection → List ℕ → Type 0) → (Call → Context → Outcome) → Type 0
-Opens5gs P G = (x : Context) (d : Direction) (k : Connection) (m out : List ℕ) → P (G (open5gs d k m out) x) x d k m
+Opens5gs P G = (x : Context) (d : Direction) (k : Connection) (m out out2 : List ℕ) → P (G (open5gs d k m out out2) x) x d k m
 
 -- "a context that refuses everything (fails the acceptance half of demand 3)"
 abbrev pub RefusesAll : (Call → Context → Outcome) → Type 0
@@ -80,7 +89,8 @@ pub record OpensAsNext (G : Call → Context → Outcome) : Type 0 where
   pub k : Connection
   pub m : List ℕ
   pub out : List ℕ
-  pub uses : Uses (G (open5gs d k m out) x) (nextAt x (placeOf d k))
+  pub out2 : List ℕ
+  pub uses : Uses (G (open5gs d k m out out2) x) (nextAt x (placeOf d k))
   pub other : getD m 6 0 % 256 ≡ nextAt x (placeOf d k) % 256 → ⊥
 
 -- "one that leaves the record still (COUNTs repeat)"
@@ -94,26 +104,27 @@ pub record Invents (G : Call → Context → Outcome) : Type 0 where
   pub k : Connection
   pub m : List ℕ
   pub out : List ℕ
+  pub out2 : List ℕ
   pub c : ℕ
-  pub uses : Uses (G (open5gs d k m out) x) c
+  pub uses : Uses (G (open5gs d k m out out2) x) c
   pub unfit : fits (x .core) c (bearerNo k) (directionNo d) 2 m ≡ false
 
 -- "one that spends all late COUNTs on the first message (P6)": next COUNT and size are those of P6, "size 8, fresh, COUNT 5 used: 0 to 4 open late, next 6"
 pub record AsInP6 (G : Call → Context → Outcome) : Type 0 where
   pub sized : (x : Context) → Fresh x → let y = G (setWindow 8) x .context in (nextAt y 0 ≡ 0) × (y .core .size ≡ 8)
-  pub moved : (x : Context) → Fresh x → (m out : List ℕ)
-      → let o = G (open5gs Uplink ThreeGpp m out) (G (setWindow 8) x .context) in
+  pub moved : (x : Context) → Fresh x → (m out out2 : List ℕ)
+      → let o = G (open5gs Uplink ThreeGpp m out out2) (G (setWindow 8) x .context) in
       o .values .uses ≡ true → o .values .count ≡ 5 → (nextAt (o .context) 0 ≡ 6) × (o .context .core .size ≡ 8)
 
 -- the two calls of P6, the last one first: a message of one octet for COUNT 5 opened, after size 8 was set
 abbrev pub p6Calls : Context → List Call
-p6Calls x = open5gs Uplink ThreeGpp (envelope (x .core) 1 5 1 0 (0 ∷ [])) (0 ∷ []) ∷ setWindow 8 ∷ []
+p6Calls x = open5gs Uplink ThreeGpp (envelope (x .core) 1 5 1 0 (0 ∷ [])) (0 ∷ []) (0 ∷ []) ∷ setWindow 8 ∷ []
 
 -- and it opens none of them late, right after the two calls
 abbrev pub NeverLate : (Call → Context → Outcome) → Type 0
-NeverLate G = (x : Context) → Fresh x → (m out : List ℕ)
+NeverLate G = (x : Context) → Fresh x → (m out out2 : List ℕ)
     → let y = contextAfter G x (p6Calls x) in
-    let o = G (open5gs Uplink ThreeGpp m out) y in
+    let o = G (open5gs Uplink ThreeGpp m out out2) y in
     o .values .uses ≡ true → nextAt y 0 ≤ o .values .count
 
 pub record Tightness : Type 0 where

@@ -51,6 +51,8 @@ fn carried(e: &NasError) -> u8 {
         NasError::DecodingError(m) | NasError::EncodingError(m) if m == "pairing" => 10,
         NasError::DecodingError(m) | NasError::EncodingError(m) if m.contains(" requires ") => 11,
         NasError::DecodingError(m) | NasError::EncodingError(m) if m.starts_with("only a plain EPS") => 12,
+        NasError::EncodingError(m) if m.starts_with("an initial NAS message") || m.contains("is no initial NAS message") => 9,
+        NasError::DecodingError(m) | NasError::EncodingError(m) if m.starts_with("the NAS message container") => 18,
         _ => 0,
     }
 }
@@ -76,8 +78,9 @@ fn next(c: &NasSecurityContext, d: Direction, n: NasConnection) -> u32 {
     c.nas_count(d, n).map_or(1 << 24, |c| c.get())
 }
 
-/// GLUE: the error that stands for refusal 8 has no COUNT. If next moved it is the one before it, else the late one.
-fn refused_content(error: NasError, before: u32, after: u32, last: u8, header: Option<u8>) -> Answer {
+/// GLUE: the error that stands for refusal 8 has no COUNT. If next moved it is the one before it, else the late one. The
+/// error of a container has the container's octets, deciphered; told are the outer ones, as for every other.
+fn refused_content(error: NasError, before: u32, after: u32, last: u8, opened: Option<(u8, &[u8])>) -> Answer {
     let NasError::AuthenticMessageRefused { error, plain } = error else { return Err(error) };
     let count = if before != after {
         after.wrapping_sub(1) & 0xff_ffff
@@ -85,8 +88,12 @@ fn refused_content(error: NasError, before: u32, after: u32, last: u8, header: O
         let highest = before - 1;
         highest - u32::from((highest as u8).wrapping_sub(last))
     };
-    let header = header.map_or(String::new(), |t| format!("{t:02x} "));
-    Ok(format!("no 8 {count:08x} {:04x} {header}{} {}", plain.len(), carried(&error), hex(&plain)))
+    let (number, plain, header, second) = match opened {
+        Some((1, outer)) if plain != outer => (18, outer.to_vec(), "01 ".into(), " 0000 -"),
+        Some((header, _)) => (carried(&error), plain, format!("{header:02x} "), " 0000 -"),
+        None => (carried(&error), plain, String::new(), ""),
+    };
+    Ok(format!("no 8 {count:08x} {:04x} {header}{number} {}{second}", plain.len(), hex(&plain)))
 }
 fn used(count: u32, wrote: &[u8]) -> String {
     format!("ok {count:08x} {:04x} {}", wrote.len(), hex(wrote))
@@ -158,17 +165,32 @@ impl Slot {
         Ok(used(before, &sealed))
     }
 
+    /// GLUE: the codec of the other two initial messages is not given: they are answered `other`.
+    fn initial(&mut self, n: NasConnection, whole: Vec<u8>) -> Answer {
+        let Some((c, _)) = &mut self.0 else { return Ok("no 13".into()) };
+        let before = next(c, Direction::Uplink, n);
+        let message = Nas5gsMessage::decode(&whole)?;
+        if matches!(message, Nas5gsMessage::Gmm(_, Nas5gmmMessage::RegistrationRequest(_) | Nas5gmmMessage::ControlPlaneServiceRequest(_))) {
+            return Ok("other".into());
+        }
+        Ok(used(before, &c.protect_initial_for_access(&message, n)?))
+    }
+
     fn opened(&mut self, d: Direction, n: NasConnection, message: Vec<u8>) -> Answer {
         let Some((c, _)) = &mut self.0 else { return Ok("no 13".into()) };
         let before = next(c, d, n);
         match c.unprotect_raw_for_access(&message, d, n) {
             Ok(v) => {
-                let (count, t, plain) = (v.count.get(), v.security_header_type as u8, v.message);
-                Ok(format!("ok {count:08x} {:04x} {t:02x} {}", plain.len(), hex(&plain)))
+                let (count, t) = (v.count.get(), v.security_header_type as u8);
+                let (first, second) = match v.sent {
+                    Some(sent) => (sent, v.message),
+                    None => (v.message, vec![]),
+                };
+                Ok(format!("ok {count:08x} {:04x} {t:02x} {} {:04x} {}", first.len(), hex(&first), second.len(), hex(&second)))
             }
             Err(e) => {
-                let header = message.get(1).map(|b| b & 15);
-                refused_content(e, before, next(c, d, n), message.get(6).copied().unwrap_or(0), header)
+                let opened = message.get(1).map(|b| (b & 15, message.get(7..).unwrap_or(&[])));
+                refused_content(e, before, next(c, d, n), message.get(6).copied().unwrap_or(0), opened)
             }
         }
     }
@@ -219,7 +241,7 @@ impl Slot {
 }
 
 impl Session {
-    /// GLUE: the text lends no output and has no limit, so LLLL is read and not used, and refusals 4 and 5 are never given.
+    /// GLUE: the text lends no output and has no limit, so LLLL and MMMM are read and not used, and refusals 4 and 5 are never given.
     fn answer(&mut self, line: &str) -> Option<Answer> {
         let words: Vec<&str> = line.split(' ').collect();
         let [call, slot, rest @ ..] = &words[..] else { return None };
@@ -248,8 +270,17 @@ impl Session {
                 number(lent, 4)?;
                 slot.sealed(call == "opaque", octet(t)?, direction(d)?, connection(n)?, octets(inner)?)
             }
+            ("initial", [n, lent, whole]) => {
+                number(lent, 4)?;
+                slot.initial(connection(n)?, octets(whole)?)
+            }
             ("open", [d, n, lent, message]) => {
                 number(lent, 4)?;
+                slot.opened(direction(d)?, connection(n)?, octets(message)?)
+            }
+            ("open2", [d, n, lent, second, message]) => {
+                number(lent, 4)?;
+                number(second, 4)?;
                 slot.opened(direction(d)?, connection(n)?, octets(message)?)
             }
             ("epsseal", [lent, inner]) => {

@@ -8,11 +8,11 @@ use Rattle.hex_print.proofs.tail.Tie as tie
 
 returns : tie.Need-returns
 unfolding tailText
-returns c = (rw (sym (c .before .is-kept .ensures) ∙ c .if1 .taken) (laws.nothing _ _), omega arith)
+returns c = (rw (sym (c .before .are-kept .ensures) ∙ c .if1 .taken) (laws.nothing _ _), omega arith)
 
 returns-2 : tie.Need-returns-2
 unfolding tailText
-returns-2 c = (rw (sym (c .before .before .before .before .before .before .is-kept .ensures) ∙ c .before .before .before .before .before .if1 .left) (c .before .before .text .ensures .0), omega (arith, c .before .before .text .ensures .1))
+returns-2 c = (rw (sym (c .before .before .before .before .before .before .are-kept .ensures) ∙ c .before .before .before .before .before .if1 .left) (c .before .before .text .ensures .0), omega (arith, c .before .before .text .ensures .1))
 
 pub tail-spec : {M : Type 1} → statement M
 tail-spec =

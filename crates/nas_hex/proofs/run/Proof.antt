@@ -5,11 +5,12 @@ use Rattle.nas_hex.proofs.run.Statement.{statement}
 use Rattle.nas_hex.proofs.run.Tie as tie
 
 abbrev Inv-loop : tie.InvT-loop
-Inv-loop input₀ text₀ octets₀ lent₀ print₀ turn₀ turns₀ input text octets lent print turn turns =
+Inv-loop input₀ text₀ octets₀ lent₀ second₀ print₀ turn₀ turns₀ input text octets lent second print turn turns =
     (length input ≡ length input₀) × (length text ≡ length text₀) × (length octets ≡ length octets₀) × (length lent ≡ length lent₀)
+    × (length second ≡ length second₀)
 
 abbrev μ-loop : tie.MeasureT-loop
-μ-loop input₀ text₀ octets₀ lent₀ print₀ turn₀ turns₀ input text octets lent print turn turns = turns
+μ-loop input₀ text₀ octets₀ lent₀ second₀ print₀ turn₀ turns₀ input text octets lent second print turn turns = turns
 
 pub run-spec : {M : Type 1} → statement M
 run-spec =
@@ -18,4 +19,4 @@ run-spec =
     Inv-loop μ-loop (λ c. search needs) (λ c κs. search needs) (λ c. search needs) (λ c. search needs)
     (λ c. search needs) (λ c. search needs) (λ c. search needs) (λ c. search needs) (λ c. search needs)
     (λ c. search needs) (λ c. search needs) (λ c. search needs) (λ c. search needs) (λ c. search needs)
-    (λ c. search needs))
+    (λ c. search needs) (λ c. search needs) (λ c. search needs))

@@ -83,26 +83,101 @@ pub mod types {
 }
 
 pub mod messages {
-    //! The look of document 01, keeping the octets. A message has no parts: the NAS message container
-    //! and the small data container are never found, so `initial` answers None.
+    //! The look of document 01, keeping the octets. SERVICE REQUEST and DEREGISTRATION REQUEST from the UE have parts. The
+    //! other two initial messages have none: their containers are never found, and `initial` answers None of them.
     use super::message_types::{Nas5gmmMessageType, Nas5gsSecurityHeaderType};
     use super::types::*;
     macro_rules! message {
         ($n:ident, $v:ident, ($($f:ident),*), ($($o:ident: $t:ty),*)) => {
             #[derive(Debug, Clone, PartialEq, Default)]
             pub struct $n { $(pub $f: u8,)* $(pub $o: Option<$t>,)* pub octets: Vec<u8> }
-            impl $n { pub fn new($($f: u8),*) -> Self { Self { $($f,)* ..Self::default() } } }
+            impl $n {
+                pub fn new($($f: u8),*) -> Self { Self { $($f,)* ..Self::default() } }
+                fn decoded(octets: &[u8]) -> Self { Self { octets: octets.to_vec(), ..Self::default() } }
+                fn encoded(&self) -> Result<Vec<u8>> { Ok(self.octets.clone()) }
+            }
             impl From<$n> for Nas5gmmMessage { fn from(m: $n) -> Self { Self::$v(Box::new(m)) } }
         };
     }
     message!(NasRegistrationRequest, RegistrationRequest, (fgs_registration_type, ngksi, fgs_mobile_identity),
         (ue_security_capability: u8, additional_guti: u8, ue_status: u8, eps_nas_message_container: u8, nid: u8,
          ue_determined_plmn_with_disaster_condition: u8, nas_message_container: NasMessageContainer));
-    message!(NasDeregistrationRequestUeOriginating, DeregistrationRequestUeOriginating,
-        (de_registration_type, ngksi, fgs_mobile_identity), (nas_message_container: NasMessageContainer));
-    message!(NasServiceRequest, ServiceRequest, (ngksi, service_type, fg_s_tmsi), (nas_message_container: NasMessageContainer));
     message!(NasControlPlaneServiceRequest, ControlPlaneServiceRequest, (control_plane_service_type, ngksi),
         (ciot_small_data_container: NasMessageContainer, nas_message_container: NasMessageContainer));
+
+    /// A message with its mandatory part, its container, and the optional octets before and after that. A message that is too
+    /// short for its mandatory part has no parts, and its octets are kept (`whole`).
+    macro_rules! with_parts {
+        ($n:ident, $v:ident, $kind:literal, ($low:ident, $high:ident, $identity:ident), $later:expr) => {
+            #[derive(Debug, Clone, PartialEq, Default)]
+            pub struct $n {
+                pub $low: u8,
+                pub $high: u8,
+                pub $identity: Vec<u8>,
+                pub nas_message_container: Option<NasMessageContainer>,
+                before: Vec<u8>,
+                after: Vec<u8>,
+                whole: Option<Vec<u8>>,
+            }
+            impl $n {
+                pub fn new($low: u8, $high: u8, $identity: Vec<u8>) -> Self {
+                    Self { $low, $high, $identity, ..Self::default() }
+                }
+                fn decoded(octets: &[u8]) -> Self {
+                    let whole = Self { whole: Some(octets.to_vec()), ..Self::default() };
+                    let [_, _, _, fourth, a, b, rest @ ..] = octets else { return whole };
+                    let Some((identity, parts)) = rest.split_at_checked(length(*a, *b)) else { return whole };
+                    let (before, value, after) = contained(parts, &$later);
+                    let nas_message_container = value.map(NasMessageContainer::new);
+                    Self { nas_message_container, before, after, ..Self::new(fourth & 15, fourth >> 4, identity.to_vec()) }
+                }
+                fn encoded(&self) -> Result<Vec<u8>> {
+                    if let Some(octets) = &self.whole {
+                        return Ok(octets.clone());
+                    }
+                    let container = match &self.nas_message_container {
+                        Some(container) => [vec![0x71], with_length(&container.value)?].concat(),
+                        None => vec![],
+                    };
+                    let first = vec![0x7e, 0, $kind, self.$high << 4 | self.$low];
+                    Ok([first, with_length(&self.$identity)?, self.before.clone(), container, self.after.clone()].concat())
+                }
+            }
+            impl From<$n> for Nas5gmmMessage { fn from(m: $n) -> Self { Self::$v(Box::new(m)) } }
+        };
+    }
+    with_parts!(NasServiceRequest, ServiceRequest, 0x4c, (ngksi, service_type, fg_s_tmsi), [0x29, 0x28]);
+    with_parts!(NasDeregistrationRequestUeOriginating, DeregistrationRequestUeOriginating, 0x45,
+        (de_registration_type, ngksi, fgs_mobile_identity), [0x3c]);
+
+    fn length(a: u8, b: u8) -> usize {
+        usize::from(a) << 8 | usize::from(b)
+    }
+    fn with_length(value: &[u8]) -> Result<Vec<u8>> {
+        let n = u16::try_from(value.len()).map_err(|_| NasError::EncodingError("a length of more than two octets".into()))?;
+        Ok([&n.to_be_bytes(), value].concat())
+    }
+    /// The optional octets before the container, its value, and those behind it (TS 24.007 11.2.4). As the text's decoder
+    /// says of itself, an IE of a wrong length is absent, and so is one out of the table's order: a container behind an IE
+    /// that the table has after it (`later`). Absent octets are kept.
+    fn contained(parts: &[u8], later: &[u8]) -> (Vec<u8>, Option<Vec<u8>>, Vec<u8>) {
+        let mut at = 0;
+        while let [identifier, rest @ ..] = &parts[at..] {
+            let (head, n) = match (identifier, rest) {
+                (0x80.., _) => (1, 0),
+                (0x70..=0x7f, [a, b, ..]) => (3, length(*a, *b)),
+                (..=0x6f, [a, ..]) => (2, usize::from(*a)),
+                _ => break,
+            };
+            let end = at + head + n;
+            match parts.get(at + head..end) {
+                Some(value) if *identifier == 0x71 => return (parts[..at].to_vec(), Some(value.to_vec()), parts[end..].to_vec()),
+                Some(_) if !later.contains(identifier) => at = end,
+                _ => break,
+            }
+        }
+        (parts.to_vec(), None, vec![])
+    }
 
     macro_rules! gmm {
         ($($p:ident $t:ident)*; $($v:ident)*) => {
@@ -111,7 +186,7 @@ pub mod messages {
             impl Nas5gmmMessage {
                 fn of(t: Nas5gmmMessageType, octets: &[u8]) -> Option<Self> {
                     match t {
-                        $(Nas5gmmMessageType::$p => Some($t { octets: octets.to_vec(), ..Default::default() }.into()),)*
+                        $(Nas5gmmMessageType::$p => Some($t::decoded(octets).into()),)*
                         $(Nas5gmmMessageType::$v => Some(Self::$v(octets.to_vec())),)*
                         Nas5gmmMessageType::Unknown(_) => None,
                     }
@@ -119,8 +194,8 @@ pub mod messages {
                 pub fn message_type(&self) -> Nas5gmmMessageType {
                     match self { $(Self::$p(_) => Nas5gmmMessageType::$p,)* $(Self::$v(_) => Nas5gmmMessageType::$v,)* }
                 }
-                fn octets(&self) -> &[u8] {
-                    match self { $(Self::$p(m) => &m.octets,)* $(Self::$v(m) => m,)* }
+                fn octets(&self) -> Result<Vec<u8>> {
+                    match self { $(Self::$p(m) => m.encoded(),)* $(Self::$v(m) => Ok(m.clone()),)* }
                 }
             }
         };
@@ -138,9 +213,10 @@ pub mod messages {
          SecurityModeReject FiveGmmStatus Notification NotificationResponse UlNasTransport DlNasTransport
          RelayKeyRequest RelayKeyAccept RelayKeyReject RelayAuthenticationRequest RelayAuthenticationResponse);
 
+    /// A 5GMM message with its second octet, and a 5GSM one.
     #[derive(Debug, Clone, PartialEq)]
     pub enum Nas5gsMessage {
-        Gmm((), Nas5gmmMessage),
+        Gmm(u8, Nas5gmmMessage),
         Gsm((), Vec<u8>),
     }
     impl Nas5gsMessage {
@@ -149,7 +225,7 @@ pub mod messages {
             match octets {
                 [0x7e, second, kind, ..] if second & 15 == 0 => {
                     let m = Nas5gmmMessage::of(Nas5gmmMessageType::try_from(*kind)?, octets);
-                    Ok(Self::Gmm((), m.ok_or_else(unknown)?))
+                    Ok(Self::Gmm(*second, m.ok_or_else(unknown)?))
                 }
                 [0x2e, _, _, _, ..] => Ok(Self::Gsm((), octets.to_vec())),
                 _ => Err(unknown()),
@@ -157,7 +233,11 @@ pub mod messages {
         }
         pub fn encode(&self) -> Result<Vec<u8>> {
             Ok(match self {
-                Self::Gmm((), m) => m.octets().to_vec(),
+                Self::Gmm(second, m) => {
+                    let mut octets = m.octets()?;
+                    octets[1] = *second;
+                    octets
+                }
                 Self::Gsm((), o) => o.clone(),
             })
         }

@@ -1,32 +1,24 @@
 use mathlib.Core.Path.{sym, _∙_}
-use Rattle.hex_parse.specs.Lines.{headOf, messageLine}
+use Rattle.hex_parse.specs.Lines.{headOf, sealLine}
 use borrow.Author.Needs.{needs}
 use Rattle.hex_parse.proofs.heads.head.Statement.{statement}
 use Rattle.hex_parse.proofs.heads.head.Tie as tie
 
 returns : tie.Need-returns
-unfolding headOf messageLine
+unfolding headOf sealLine
 returns c = simp (c .headed .ensures, c .before .room .ensures, c .before .before .slot .ensures, c .before .before .before .digit2 .ensures, c .before .before .before .before .digit .ensures, c .before .before .before .before .before .octet .ensures, sym (c .before .before .before .before .before .before .before .begins .ensures) ∙ c .before .before .before .before .before .before .if1 .taken)
 
 returns-2 : tie.Need-returns-2
-unfolding headOf messageLine
+unfolding headOf sealLine
 returns-2 c = simp (c .headed2 .ensures, c .before .room2 .ensures, c .before .before .slot2 .ensures, c .before .before .before .digit4 .ensures, c .before .before .before .before .digit3 .ensures, c .before .before .before .before .before .octet2 .ensures, sym (c .before .before .before .before .before .before .before .begins2 .ensures) ∙ c .before .before .before .before .before .before .if2 .taken, sym (c .before .before .before .before .before .before .before .before .before .before .begins .ensures) ∙ c .before .before .before .before .before .before .before .before .before .if1 .left)
 
 returns-3 : tie.Need-returns-3
-unfolding headOf messageLine
-returns-3 c = simp (c .headed3 .ensures, c .before .room3 .ensures, c .before .before .slot3 .ensures, c .before .before .before .digit6 .ensures, c .before .before .before .before .digit5 .ensures, sym (c .before .before .before .before .before .before .begins3 .ensures) ∙ c .before .before .before .before .before .if3 .taken, sym (c .before .before .before .before .before .before .before .before .before .begins2 .ensures) ∙ c .before .before .before .before .before .before .before .before .if2 .left, sym (c .before .before .before .before .before .before .before .before .before .before .before .before .begins .ensures) ∙ c .before .before .before .before .before .before .before .before .before .before .before .if1 .left)
+unfolding headOf sealLine
+returns-3 c = simp (c .headed3 .ensures, c .before .room3 .ensures, c .before .before .slot3 .ensures, c .before .before .before .digit5 .ensures, sym (c .before .before .before .before .before .begins3 .ensures) ∙ c .before .before .before .before .if3 .taken, sym (c .before .before .before .before .before .before .before .before .begins2 .ensures) ∙ c .before .before .before .before .before .before .before .if2 .left, sym (c .before .before .before .before .before .before .before .before .before .before .before .begins .ensures) ∙ c .before .before .before .before .before .before .before .before .before .before .if1 .left)
 
 returns-4 : tie.Need-returns-4
-unfolding headOf messageLine
-returns-4 c = simp (c .headed4 .ensures, c .before .room4 .ensures, c .before .before .slot4 .ensures, sym (c .before .before .before .before .begins4 .ensures) ∙ c .before .before .before .if4 .taken, sym (c .before .before .before .before .before .before .before .begins3 .ensures) ∙ c .before .before .before .before .before .before .if3 .left, sym (c .before .before .before .before .before .before .before .before .before .before .begins2 .ensures) ∙ c .before .before .before .before .before .before .before .before .before .if2 .left, sym (c .before .before .before .before .before .before .before .before .before .before .before .before .before .begins .ensures) ∙ c .before .before .before .before .before .before .before .before .before .before .before .before .if1 .left)
-
-returns-5 : tie.Need-returns-5
-unfolding headOf messageLine
-returns-5 c = simp (c .headed5 .ensures, c .before .room5 .ensures, c .before .before .slot5 .ensures, sym (c .before .before .before .before .begins5 .ensures) ∙ c .before .before .before .if5 .taken, sym (c .before .before .before .before .before .before .before .begins4 .ensures) ∙ c .before .before .before .before .before .before .if4 .left, sym (c .before .before .before .before .before .before .before .before .before .before .begins3 .ensures) ∙ c .before .before .before .before .before .before .before .before .before .if3 .left, sym (c .before .before .before .before .before .before .before .before .before .before .before .before .before .begins2 .ensures) ∙ c .before .before .before .before .before .before .before .before .before .before .before .before .if2 .left, sym (c .before .before .before .before .before .before .before .before .before .before .before .before .before .before .before .before .begins .ensures) ∙ c .before .before .before .before .before .before .before .before .before .before .before .before .before .before .before .if1 .left)
-
-returns-6 : tie.Need-returns-6
-unfolding headOf messageLine
-returns-6 c = simp (c .change .ensures, sym (c .before .before .begins5 .ensures) ∙ c .before .if5 .left, sym (c .before .before .before .before .before .begins4 .ensures) ∙ c .before .before .before .before .if4 .left, sym (c .before .before .before .before .before .before .before .before .begins3 .ensures) ∙ c .before .before .before .before .before .before .before .if3 .left, sym (c .before .before .before .before .before .before .before .before .before .before .before .begins2 .ensures) ∙ c .before .before .before .before .before .before .before .before .before .before .if2 .left, sym (c .before .before .before .before .before .before .before .before .before .before .before .before .before .before .begins .ensures) ∙ c .before .before .before .before .before .before .before .before .before .before .before .before .before .if1 .left)
+unfolding headOf sealLine
+returns-4 c = simp (c .opening .ensures, sym (c .before .before .begins3 .ensures) ∙ c .before .if3 .left, sym (c .before .before .before .before .before .begins2 .ensures) ∙ c .before .before .before .before .if2 .left, sym (c .before .before .before .before .before .before .before .before .begins .ensures) ∙ c .before .before .before .before .before .before .before .if1 .left)
 
 pub head-spec : {M : Type 1} → statement M
 head-spec =
@@ -36,7 +28,5 @@ head-spec =
     (λ c κs. search needs) (λ c κs. search needs) (λ c κs. search needs) returns (λ c. search needs)
     (λ c κs. search needs) (λ c κs. search needs) (λ c κs. search needs) (λ c κs. search needs) (λ c κs. search needs)
     (λ c κs. search needs) (λ c κs. search needs) returns-2 (λ c. search needs) (λ c κs. search needs)
-    (λ c κs. search needs) (λ c κs. search needs) (λ c κs. search needs) (λ c κs. search needs) (λ c κs. search needs)
-    returns-3 (λ c. search needs) (λ c κs. search needs) (λ c κs. search needs) (λ c κs. search needs)
-    (λ c κs. search needs) returns-4 (λ c. search needs) (λ c κs. search needs) (λ c κs. search needs)
-    (λ c κs. search needs) (λ c κs. search needs) returns-5 (λ c κs. search needs) returns-6)
+    (λ c κs. search needs) (λ c κs. search needs) (λ c κs. search needs) (λ c κs. search needs) returns-3
+    (λ c κs. search needs) returns-4)

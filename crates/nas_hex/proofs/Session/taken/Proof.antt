@@ -6,11 +6,12 @@ use Rattle.nas_hex.proofs.Session.taken.Statement.{statement}
 use Rattle.nas_hex.proofs.Session.taken.Tie as tie
 
 abbrev Inv-loop : tie.InvT-loop
-Inv-loop input text₀ octets₀ lent₀ print₀ session₀ at₀ text octets lent print session at =
+Inv-loop input text₀ octets₀ lent₀ second₀ print₀ session₀ at₀ text octets lent second print session at =
     (at ≤ length input) × (length text ≡ length text₀) × (length octets ≡ length octets₀) × (length lent ≡ length lent₀)
+    × (length second ≡ length second₀)
 
 abbrev μ-loop : tie.MeasureT-loop
-μ-loop input text₀ octets₀ lent₀ print₀ session₀ at₀ text octets lent print session at = length input - at
+μ-loop input text₀ octets₀ lent₀ second₀ print₀ session₀ at₀ text octets lent second print session at = length input - at
 
 pub taken-spec : {M : Type 1} → statement M
 taken-spec =
@@ -19,5 +20,5 @@ taken-spec =
     Inv-loop μ-loop (λ c. search needs) (λ c κs. search needs) (λ c. search needs) (λ c. search needs)
     (λ c. search needs) (λ c κs. search needs) (λ c. search needs) (λ c. search needs) (λ c. search needs)
     (λ c. search needs) (λ c. search needs) (λ c. search needs) (λ c. search needs) (λ c. search needs)
-    (λ c κs. search needs) (λ c. search needs) (λ c. search needs) (λ c. search needs) (λ c. search needs)
-    (λ c. search needs) (λ c. search needs))
+    (λ c. search needs) (λ c κs. search needs) (λ c. search needs) (λ c. search needs) (λ c. search needs) (λ c. search needs)
+    (λ c. search needs) (λ c. search needs) (λ c. search needs))

@@ -1,7 +1,7 @@
 // The line of an answer. Each function puts its text behind what stands before a place, and answers the place after it.
 ghost use mathlib.Core.Path.{_≡_};
 ghost use mathlib.Core.Bool.{_&&_};
-ghost use mathlib.Core.List.{_++_};
+ghost use mathlib.Core.List.{[], _++_};
 ghost use Prim.Native.Nat.{_+_, _*_, _≤_};
 ghost use lib.ListN.{length, take, drop};
 ghost use Rattle.hex_print.specs.Words.{Puts, word, decimalWord, octetsWord, ok, no};
@@ -142,6 +142,93 @@ fn content(count: u32, distance: u32, wrote: usize, out: &mut [u8], at: usize) -
     received(count, distance, wrote, out, next)
 }
 
+// The answers that use a COUNT, each with the octets behind its numbers.
+
+fn put_used(count: u32, wrote: usize, written: &[u8], out: &mut [u8], at: usize) -> usize
+    requires { ⌜ at + 1024 + length (now written) * 2 ≤ length (now out) ⌝ }
+    ensures { λ r. ⌜ Puts (now (out .entry)) at (ok ++ usedText count wrote ++ octetsWord (now (written .entry))) (now (out .exit)) r × (r ≤ at + 250 + length (now (written .entry)) * 2) ⌝ }
+{
+    let next = success(count, wrote, out, at);
+    words::octets(written, out, next)
+}
+
+fn put_made(count: u32, octet: u8, out: &mut [u8], at: usize) -> usize
+    requires { ⌜ at + 1024 ≤ length (now out) ⌝ }
+    ensures { λ r. ⌜ Puts (now (out .entry)) at (ok ++ usedText count 0 ++ word 1 octet ++ octetsWord []) (now (out .exit)) r × (r ≤ at + 250) ⌝ }
+{
+    let next = success(count, 0, out, at);
+    let made = words::word(octet as u64, 1, out, next);
+    words::octets(&[], out, made)
+}
+
+fn put_received(
+    count: u32,
+    distance: u32,
+    wrote: usize,
+    written: &[u8],
+    out: &mut [u8],
+    at: usize,
+) -> usize
+    requires { ⌜ at + 1024 + length (now written) * 2 ≤ length (now out) ⌝ }
+    ensures { λ r. ⌜ Puts (now (out .entry)) at (ok ++ receivedText count distance wrote ++ octetsWord (now (written .entry))) (now (out .exit)) r × (r ≤ at + 250 + length (now (written .entry)) * 2) ⌝ }
+{
+    let next = accepted(count, distance, wrote, out, at);
+    words::octets(written, out, next)
+}
+
+fn put_opened(
+    count: u32,
+    distance: u32,
+    wrote: usize,
+    header: u8,
+    written: &[u8],
+    out: &mut [u8],
+    at: usize,
+) -> usize
+    requires { ⌜ at + 1024 + length (now written) * 2 ≤ length (now out) ⌝ }
+    ensures { λ r. ⌜ Puts (now (out .entry)) at (ok ++ receivedText count distance wrote ++ word 1 header ++ octetsWord (now (written .entry))) (now (out .exit)) r × (r ≤ at + 250 + length (now (written .entry)) * 2) ⌝ }
+{
+    let next = accepted(count, distance, wrote, out, at);
+    let typed = words::word(header as u64, 1, out, next);
+    words::octets(written, out, typed)
+}
+
+fn put_content(
+    count: u32,
+    distance: u32,
+    wrote: usize,
+    header: u8,
+    number: u8,
+    written: &[u8],
+    out: &mut [u8],
+    at: usize,
+) -> usize
+    requires { ⌜ at + 1024 + length (now written) * 2 ≤ length (now out) ⌝ }
+    ensures { λ r. ⌜ Puts (now (out .entry)) at (contentText count distance wrote ++ word 1 header ++ decimalWord number ++ octetsWord (now (written .entry))) (now (out .exit)) r × (r ≤ at + 250 + length (now (written .entry)) * 2) ⌝ }
+{
+    let next = content(count, distance, wrote, out, at);
+    let typed = words::word(header as u64, 1, out, next);
+    let carried = words::decimal(number, out, typed);
+    words::octets(written, out, carried)
+}
+
+fn put_eps_content(
+    count: u32,
+    distance: u32,
+    wrote: usize,
+    number: u8,
+    written: &[u8],
+    out: &mut [u8],
+    at: usize,
+) -> usize
+    requires { ⌜ at + 1024 + length (now written) * 2 ≤ length (now out) ⌝ }
+    ensures { λ r. ⌜ Puts (now (out .entry)) at (contentText count distance wrote ++ decimalWord number ++ octetsWord (now (written .entry))) (now (out .exit)) r × (r ≤ at + 250 + length (now (written .entry)) * 2) ⌝ }
+{
+    let next = content(count, distance, wrote, out, at);
+    let carried = words::decimal(number, out, next);
+    words::octets(written, out, carried)
+}
+
 // An answer with the octets that were written in the output, or the context for `show`.
 pub fn answer_text(
     answer: Answer,
@@ -158,56 +245,33 @@ pub fn answer_text(
         Answer::Done => words::text(b"ok", out, at),
         Answer::Shown => context::shown(context, out, at),
         Answer::Refused(number) => refusal(number, out, at),
-        Answer::Used { count, wrote } => {
-            let next = success(count, wrote, out, at);
-            words::octets(written, out, next)
-        }
-        Answer::Made { count, octet } => {
-            let next = success(count, 0, out, at);
-            let made = words::word(octet as u64, 1, out, next);
-            words::octets(&[], out, made)
-        }
+        Answer::Used { count, wrote } => put_used(count, wrote, written, out, at),
+        Answer::Made { count, octet } => put_made(count, octet, out, at),
         Answer::Opened {
             count,
             distance,
             wrote,
             header,
             second: _,
-        } => {
-            let next = accepted(count, distance, wrote, out, at);
-            let typed = words::word(header as u64, 1, out, next);
-            words::octets(written, out, typed)
-        }
+        } => put_opened(count, distance, wrote, header, written, out, at),
         Answer::Content {
             count,
             distance,
             wrote,
             header,
             number,
-        } => {
-            let next = content(count, distance, wrote, out, at);
-            let typed = words::word(header as u64, 1, out, next);
-            let carried = words::decimal(number, out, typed);
-            words::octets(written, out, carried)
-        }
+        } => put_content(count, distance, wrote, header, number, written, out, at),
         Answer::EpsContent {
             count,
             distance,
             wrote,
             number,
-        } => {
-            let next = content(count, distance, wrote, out, at);
-            let carried = words::decimal(number, out, next);
-            words::octets(written, out, carried)
-        }
+        } => put_eps_content(count, distance, wrote, number, written, out, at),
         Answer::Received {
             count,
             distance,
             wrote,
-        } => {
-            let next = accepted(count, distance, wrote, out, at);
-            words::octets(written, out, next)
-        }
+        } => put_received(count, distance, wrote, written, out, at),
     }
 }
 

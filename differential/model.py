@@ -365,16 +365,15 @@ METHODS = {
     "n1s1v": Context.verify_n1_to_s1, "s1n1": Context.s1_to_n1, "s1n1v": Context.verify_s1_to_n1,
     "reselect": Context.reselect, "window": Context.window,
 }
-PATTERNS = {k: [re.compile(pattern) for pattern, _ in words] for k, words in CALLS.items()}
 
 
-def parsed(line):
+def parsed(line, calls=CALLS):
     """The call's name and the values of its words, or None."""
     words = line.split(" ")
-    kinds, patterns = CALLS.get(words[0]), PATTERNS.get(words[0])
+    kinds = calls.get(words[0])
     if kinds is None or len(words) != 1 + len(kinds):
         return None
-    if not all(p.fullmatch(w) for p, w in zip(patterns, words[1:])):
+    if not all(re.fullmatch(pattern, w) for (pattern, _), w in zip(kinds, words[1:])):
         return None
     return words[0], [read(w) for (_, read), w in zip(kinds, words[1:])]
 

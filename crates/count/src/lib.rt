@@ -28,13 +28,21 @@ pub enum Opening {
     Wrong,
 }
 
-// How far above a the least number lies that ends in b's low octet.
-fn distance_up(a: u32, b: u32) -> u32
-    ensures { λ r. ⌜ r ≡ distance 8 a b ⌝ }
+// How many numbers differ in their k low bits.
+fn reach(k: u8) -> u32
+    requires { ⌜ k ≤ 8 ⌝ }
+    ensures { λ r. ⌜ (r ≡ 2 ^ k) × (0 < r) × (r ≤ 256) ⌝ }
 {
-    let from = (a % 256) as u8;
-    let to = (b % 256) as u8;
-    std::num::wrapping_sub_u8(to, from) as u32
+    1 << k
+}
+
+// How far above a the least number lies that ends in b's k low bits.
+fn distance_up(k: u8, a: u32, b: u32) -> u32
+    requires { ⌜ k ≤ 8 ⌝ }
+    ensures { λ r. ⌜ (r ≡ distance k a b) × (r < 256) ⌝ }
+{
+    let m = reach(k);
+    (b % m + (m - a % m)) % m
 }
 
 // Bit k, clear past the last.
@@ -74,15 +82,16 @@ fn lesser(a: u8, b: u8) -> u8
 }
 
 impl Record {
-    // The least COUNT from next on whose last octet is s; with null integrity (wraps) it goes round.
-    pub fn forward(self, wraps: bool, s: u8) -> Candidate
-        ensures { λ r. ⌜ r ≡ forwardOf 8 wraps self s ⌝ }
+    // The least COUNT from next on whose k low bits are those of s; with null integrity (wraps) it goes round.
+    pub fn forward(self, k: u8, wraps: bool, s: u8) -> Candidate
+        requires { ⌜ k ≤ 8 ⌝ }
+        ensures { λ r. ⌜ r ≡ forwardOf k wraps self s ⌝ }
     {
         let next = self.next;
         if EXHAUSTED <= next {
             return Candidate::Nothing;
         }
-        let c = next + distance_up(next, s as u32);
+        let c = next + distance_up(k, next, s as u32);
         if c < EXHAUSTED {
             return Candidate::At(c);
         }
@@ -101,7 +110,7 @@ impl Record {
             return Candidate::Nothing;
         }
         let h = next - 1;
-        let d = distance_up(s as u32, h);
+        let d = distance_up(8, s as u32, h);
         if d < 1 {
             return Candidate::Nothing;
         }

@@ -1,14 +1,15 @@
 -- How many octets a call writes.
-use mathlib.Core.Path.{_≡_, ap, sym, _∙_}
-use mathlib.Core.List.{List, _++_}
+use mathlib.Core.Path.{_≡_, ap, _∙_}
+use mathlib.Core.List.{List}
 use mathlib.Core.Bool.{true}
 use Prim.Native.Nat.{ℕ, _+_, _≤_}
 use native.Mathlib.Omega.{arith}
-use lib.ListN.{length, drop, length-append}
+use lib.ListN.{length, length-append}
 use Rattle.nas_core.specs.declared.Core.{Core}
 use Rattle.nas_core.specs.Keyed.{codeBy, payload}
+pub use Rattle.nas_core.proofs.Octets.{over-front}
 use Rattle.nas_core.proofs.Keys.{code-by-length, payload-length, protected-length}
-use Rattle.envelope.specs.Envelope.{ciphers, envelope, over}
+use Rattle.envelope.specs.Envelope.{ciphers, envelope}
 use Rattle.envelope.specs.Eps.{epsMessage}
 use Rattle.initial.specs.Messages.{mandatoryLength}
 use Rattle.initial.specs.Outer.{outerLength}
@@ -38,7 +39,3 @@ outgoing-length x c b w h = laws .out w (payload x true c b 0 w) .length-is h (p
 pub initial-length : (x : Core) (c b : ℕ) (w : List ℕ) → mandatoryLength w ≤ length w → length (initialEnvelope x c b w) ≡ 7 + outerLength w
 unfolding initialEnvelope
 initial-length x c b w h = envelope-length x 1 c b 0 (outgoing x c b w) ∙ ap (λ (n : ℕ). 7 + n) (outgoing-length x c b w h)
-
--- octets over the front of an output, by how many there are
-pub over-front : (n : ℕ) (ys p out : List ℕ) → ys ≡ p → length ys ≡ n → ys ++ drop n out ≡ over p out
-over-front n ys p out y l = let m : n ≡ length p = sym l ∙ ap (λ (q : List ℕ). length q) y in simp (y, m)

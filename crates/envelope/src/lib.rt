@@ -6,7 +6,7 @@ ghost use lib.ListN.{length, drop};
 ghost use Rattle.look.specs.Look.{lookOf};
 ghost use Rattle.nas_core.specs.Keyed.{payload, protected};
 ghost use Rattle.nas_core.specs.Verify.{fits};
-ghost use Rattle.envelope.specs.Envelope.{wrongType, ciphers, envelope, over};
+ghost use Rattle.envelope.specs.Envelope.{ciphers, envelope, over};
 ghost use Rattle.envelope.specs.Eps.{notEps, epsMessage};
 ghost use Rattle.envelope.specs.Containers.{s1ToN1, s1Count, containerBearer, containerDirection, otherAlgorithms};
 
@@ -46,25 +46,6 @@ const CONTAINER_DIRECTION: u8 = 1;
 // The COUNT of the S1-to-N1 container's code (TS 33.501 6.9.2.3.3).
 const S1_COUNT: u32 = 4294967295;
 
-// Refusal 3.
-pub fn is_wrong_type(header_type: u8) -> bool
-    ensures { λ r. ⌜ r ≡ wrongType «header_type» ⌝ }
-{
-    if header_type < 1 {
-        return true;
-    }
-    4 < header_type
-}
-
-fn is_ciphering(header_type: u8) -> bool
-    ensures { λ r. ⌜ r ≡ ciphers «header_type» ⌝ }
-{
-    if header_type == 2 {
-        return true;
-    }
-    header_type == 4
-}
-
 // The payload stands behind seven octets: the header is written there.
 fn wrap(core: Core, header_type: u8, count: u32, bearer: u8, direction: u8, message: &mut [u8])
     requires { ⌜ 7 ≤ length (now message) ⌝ }
@@ -89,7 +70,7 @@ pub fn put(
     ensures { λ r. ⌜ now (out .exit) ≡ over (envelope core «header_type» count bearer direction (now (inner .entry))) (now (out .entry)) ⌝ }
 {
     let end = HEADER + inner.len();
-    let ciphered = is_ciphering(header_type);
+    let ciphered = nas_core::is_ciphering(header_type);
     core.fill(
         ciphered,
         count,
@@ -116,7 +97,7 @@ pub fn read(
     ensures looked { λ r. ⌜ r ≡ lookOf «header_type» direction (payload core (ciphers «header_type») count bearer direction (drop 7 (now (message .entry)))) ⌝ }
 {
     let wrote = message.len() - HEADER;
-    let ciphered = is_ciphering(header_type);
+    let ciphered = nas_core::is_ciphering(header_type);
     core.fill(
         ciphered,
         count,

@@ -11,6 +11,7 @@ use Rattle.count.specs.Rule.{exhausted}
 use Rattle.refusals.proofs.Laws.{passed, off}
 use Rattle.nas_core.specs.Refusals.{limit}
 use Rattle.nas_core.proofs.Keys.{core-passed}
+pub use Rattle.nas_core.proofs.Choices.{late-near, ahead-near}
 use Rattle.initial.specs.Messages.{isInitial, mandatoryLength}
 use Rattle.initial.specs.Outer.{isHideable, outerLength}
 use Rattle.initial.proofs.Laws.{laws}
@@ -26,13 +27,6 @@ use Rattle.nas_5gs.specs.Containers.{containerPlace, s1ToN1Refusals, s1T
 pub fault-passed : (x : Context) → faultOf x ≡ 0 → (x .core .integrity ≤ 15) × (x .core .ciphering ≤ 15) × (x .core .size ≤ 64)
 unfolding faultOf
 fault-passed x e = core-passed (x .core) (passed (contextRefusals x) e 0)
-
--- what the distance of a COUNT asks of its record, used late and forward
-pub late-near : (n c : ℕ) → n ≤ c + 65 → n ≤ c + exhausted
-late-near n c h = omega arith
-
-pub ahead-near : (n c : ℕ) → n < exhausted → n ≤ c + exhausted
-ahead-near n c h = omega arith
 
 -- what a call that sends n octets behind a header may rely on
 pub record Sends (x : Context) (p header n k : ℕ) : Type 0 where

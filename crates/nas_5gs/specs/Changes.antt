@@ -7,19 +7,14 @@ use lib.Dec.{ltb}
 use Rattle.count.specs.Rule.{resizeOf, closeOf}
 use Rattle.refusals.specs.Order.{_when_, first, refusedOr}
 use Rattle.nas_core.specs.Keyed.{awayFromNull}
+pub use Rattle.nas_core.specs.Keyed.{coreWith}
 use Rattle.nas_core.specs.Refusals.{unbuilt}
-use Rattle.aes.specs.declared.Key.{Key}
 use Rattle.aes.specs.Keys.{keyOf}
-use Rattle.nas_core.specs.declared.Core.{Core}
 use Rattle.nas_5gs.specs.declared.Context.{Context}
 use Rattle.nas_5gs.specs.declared.ChangeAnswer.{ChangeAnswer}
 use Rattle.nas_5gs.specs.declared.ChangeAnswer.the-variants.{Refused, Done}
 use Rattle.nas_5gs.specs.Places.{recordAt, four, anyOver, faultOf}
 use Rattle.nas_5gs.specs.Leaves.{Leaves, leaves}
-
-abbrev pub coreWith : ℕ → ℕ → Key → Key → ℕ → Core
-coreWith i c ik ck n =
-    record { integrity = i; ciphering = c; «integrity_key» = ik; «ciphering_key» = ck; size = n }
 
 -- four next COUNTs, size 0, no bit marked
 abbrev pub contextWith : ℕ → ℕ → List ℕ → List ℕ → List ℕ → Context

@@ -1,13 +1,12 @@
 -- A context's four records (document 01, "Words"), the numbers of direction and connection, and a COUNT used in one record.
 use Prim.Native.Nat.{ℕ}
-use mathlib.Core.Bool.{Bool, false, _||_}
 use mathlib.Core.List.{List, [], _∷_}
 use lib.ListN.{getD, set}
-use lib.Dec.{ltb}
-use Rattle.count.specs.Rule.{exhausted, useLate}
+use Rattle.count.specs.Rule.{useLate}
 use Rattle.count.specs.declared.Record.{Record}
 use Rattle.refusals.specs.Order.{_when_, first}
 use Rattle.nas_core.specs.Refusals.{coreFault}
+pub use Rattle.nas_core.specs.Refusals.{anyOver}
 use Rattle.nas_core.specs.Verify.{advanced}
 use Rattle.nas_5gs.specs.declared.Direction.{Direction}
 use Rattle.nas_5gs.specs.declared.Direction.the-variants.{Uplink, Downlink}
@@ -44,11 +43,6 @@ nextAt x p = recordAt x p .next
 
 abbrev pub withRecord : Context → ℕ → Record → Context
 withRecord x p r = record { core = x .core; records = set (x .records) p r }
-
--- a next COUNT above 16,777,216 among some
-abbrev pub anyOver : List ℕ → Bool
-anyOver [] = false
-anyOver (n ∷ l) = ltb exhausted n || anyOver l
 
 -- the context itself, before all else: 13, 14, 16
 abbrev pub contextRefusals : Context → List ℕ

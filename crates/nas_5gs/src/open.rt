@@ -71,7 +71,7 @@ impl Context {
         if message[0] != 0x7e {
             return 2;
         }
-        if envelope::is_wrong_type(message[1] % 16) {
+        if nas_core::is_wrong_type(message[1] % 16) {
             return 3;
         }
         if message.len() == 7 {

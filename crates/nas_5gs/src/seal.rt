@@ -27,7 +27,7 @@ impl Context {
         if look::not_known(inner) {
             return 9;
         }
-        if envelope::is_wrong_type(header_type) {
+        if nas_core::is_wrong_type(header_type) {
             return 3;
         }
         if look::not_together(header_type, inner) {
@@ -48,7 +48,7 @@ impl Context {
         if n != 0 {
             return n;
         }
-        if envelope::is_wrong_type(header_type) {
+        if nas_core::is_wrong_type(header_type) {
             return 3;
         }
         let next = self.records[p].next;

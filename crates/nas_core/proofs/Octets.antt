@@ -1,5 +1,5 @@
--- Four octets of a list: stored one by one, and compared as one number.
-use mathlib.Core.Path.{_≡_, refl, ap, _∙_}
+-- Octets of a list: stored one by one, written to the front of an output, and four compared as one number.
+use mathlib.Core.Path.{_≡_, refl, ap, sym, _∙_}
 use mathlib.Core.Bool.{Bool, true, false, _&&_}
 use mathlib.Core.List.{List, [], _∷_, _++_, append-assoc}
 use Prim.Native.Nat.{ℕ, _+_, _*_, _-_, _≤_, _<_}
@@ -8,6 +8,7 @@ use lib.ListN.{length, take, drop, getD, length-drop}
 use lib.Seq.{take-all, sets, sets-eq, drop-at, length-take-le}
 use lib.Dec.{eqb}
 use borrow.Author.Tests.{eq-eqb, ne-eqb, eqb-true, eqb-false}
+use Rattle.nas_core.specs.Leaves.{over}
 use Rattle.nas_core.specs.Verify.{same}
 
 -- a list of four, octet by octet
@@ -38,6 +39,10 @@ rest n m =
 -- two parts, each equal
 pub joined : {k k′ z z′ : List ℕ} → k ≡ k′ → z ≡ z′ → k ++ z ≡ k′ ++ z′
 joined e f = cc
+
+-- octets over the front of an output, by how many there are
+pub over-front : (n : ℕ) (ys p out : List ℕ) → ys ≡ p → length ys ≡ n → ys ++ drop n out ≡ over p out
+over-front n ys p out y l = let m : n ≡ length p = sym l ∙ ap (λ (q : List ℕ). length q) y in simp (y, m)
 
 abbrev word : ℕ → ℕ → ℕ → ℕ → ℕ
 word a b c d = ((a * 256 + b) * 256 + c) * 256 + d

@@ -4,8 +4,13 @@ use Prim.Native.Nat.{ℕ, _%_}
 use mathlib.Core.Bool.{Bool, cond, not, _&&_}
 use mathlib.Core.List.{List, _∷_, _++_}
 use lib.Dec.{eqb}
+use Rattle.aes.specs.declared.Key.{Key}
 use Rattle.algorithms.specs.Codes.{codeOf, cipherOf}
 use Rattle.nas_core.specs.declared.Core.{Core}
+
+abbrev pub coreWith : ℕ → ℕ → Key → Key → ℕ → Core
+coreWith i c ik ck n =
+    record { integrity = i; ciphering = c; «integrity_key» = ik; «ciphering_key» = ck; size = n }
 
 -- null integrity: COUNTs go round, every received code passes
 unfoldable pub wraps : Core → Bool

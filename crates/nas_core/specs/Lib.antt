@@ -1,4 +1,5 @@
 pub mod Refusals
+pub mod Types
 pub mod Keyed
 pub mod Verify
 pub mod Leaves

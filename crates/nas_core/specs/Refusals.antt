@@ -1,6 +1,6 @@
 -- The refusals that 5GS and EPS calls share (document 01, "Refusal numbers").
 use Prim.Native.Nat.{ℕ, _+_, _-_}
-use mathlib.Core.Bool.{Bool, _||_, not}
+use mathlib.Core.Bool.{Bool, false, _||_, not}
 use mathlib.Core.List.{List, [], _∷_}
 use lib.Dec.{leb, ltb}
 use Rattle.count.specs.Rule.{exhausted}
@@ -22,6 +22,11 @@ coreRefusals x = 13 when unbuilt (x .integrity) (x .ciphering) ∷ 14 when (ltb 
 
 unfoldable pub coreFault : Core → ℕ
 coreFault x = first (coreRefusals x)
+
+-- a next COUNT above 16,777,216 among some
+abbrev pub anyOver : List ℕ → Bool
+anyOver [] = false
+anyOver (n ∷ l) = ltb exhausted n || anyOver l
 
 -- sending n octets behind a header in an output of so many octets, with the next COUNT: 4, 5, 6
 abbrev pub sendRefusals : ℕ → ℕ → ℕ → ℕ → List ℕ

@@ -7,6 +7,7 @@ ghost use lib.ListN.{length, drop, getD};
 ghost use Rattle.count.specs.Rule.{exhausted, forwardOf, lateOf, tryForward};
 ghost use Rattle.refusals.specs.Order.{first};
 ghost use Rattle.nas_core.specs.Refusals.{coreFault, sendRefusals, handRefusals, unbuilt};
+ghost use Rattle.nas_core.specs.Types.{wrongType, ciphers};
 ghost use Rattle.nas_core.specs.Keyed.{wraps, awayFromNull, codeBy, payload, protected};
 ghost use Rattle.nas_core.specs.Verify.{same, fits, verifyOf, advanced};
 use aes::Key;
@@ -47,6 +48,25 @@ pub fn away_from_null(from: u8, to: u8) -> bool
         return true;
     }
     false
+}
+
+// Refusal 3.
+pub fn is_wrong_type(header_type: u8) -> bool
+    ensures { λ r. ⌜ r ≡ wrongType «header_type» ⌝ }
+{
+    if header_type < 1 {
+        return true;
+    }
+    4 < header_type
+}
+
+pub fn is_ciphering(header_type: u8) -> bool
+    ensures { λ r. ⌜ r ≡ ciphers «header_type» ⌝ }
+{
+    if header_type == 2 {
+        return true;
+    }
+    header_type == 4
 }
 
 // Refusals 4, 5 and 6 of a call that sends, and 0 for none.
@@ -202,7 +222,7 @@ impl Core {
     pub fn forward(self, rec: Record, s: u8) -> Candidate
         ensures { λ r. ⌜ r ≡ forwardOf 8 (wraps self) rec s ⌝ }
     {
-        rec.forward(self.wraps(), s)
+        rec.forward(8, self.wraps(), s)
     }
 
     fn verify_forward(

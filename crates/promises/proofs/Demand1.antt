@@ -5,10 +5,9 @@ use mathlib.Core.Bool.{Bool, true, false, cond, not, _||_}
 use mathlib.Core.Logic.{_⊎_, inl, inr}
 use mathlib.Core.List.{List, [], _∷_}
 use native.Mathlib.Omega.{arith}
-use lib.ListN.{length, getD, drop, replicate, length-append, length-drop}
-use lib.Seq.{drop-append-seam}
+use lib.ListN.{length, getD, drop, length-append, length-drop}
 use lib.Dec.{eqb, ltb}
-use borrow.Author.Tests.{eqb-true, eqb-false, ltb-false, lt-ltb, le-ltb}
+use borrow.Author.Tests.{eqb-true, eqb-false, lt-ltb, le-ltb}
 use Rattle.count.specs.declared.Opening.{Opening}
 use Rattle.count.specs.declared.Opening.the-variants.{Late, Forward, None, Wrong}
 use Rattle.count.specs.declared.Candidate.{Candidate}
@@ -17,8 +16,6 @@ use Rattle.count.specs.Rule.{exhausted, distanceOf, forwardOf, tryForward, forw
 use Rattle.count.specs.Run.{In}
 use Rattle.count.proofs.Candidates.{never}
 use Rattle.count.proofs.Openings.{answers}
-use Rattle.refusals.specs.Order.{_when_, first, refusedOr}
-use Rattle.refusals.proofs.Laws.{passed, off}
 use Rattle.algorithms.proofs.Laws.{code-length}
 use Rattle.algorithms.specs.Codes.{isBuilt}
 use Rattle.nas_core.specs.Refusals.{unbuilt, coreFault}
@@ -35,7 +32,7 @@ use Rattle.nas_5gs.specs.declared.UseAnswer.the-variants as use′
 use Rattle.nas_5gs.specs.declared.OpenAnswer.the-variants as open′
 use Rattle.nas_5gs.specs.declared.EpsOpenAnswer.the-variants as eps
 use Rattle.nas_5gs.specs.Places.{directionNo, bearerNo, placeOf, four, anyOver, recordAt, nextAt, faultOf, used, usedLate}
-use Rattle.nas_5gs.specs.Leaves.{leaves, over, useNext, received, Values, refusal, changeValues, useValues, openValues, epsOpenValues, verifyValues}
+use Rattle.nas_5gs.specs.Leaves.{over, useNext, received, Values, refusal, useValues, openValues, epsOpenValues, verifyValues}
 use Rattle.nas_5gs.specs.Changes.{refusedContext, newOf, restoreOf, reselectOf, windowOf}
 use Rattle.nas_5gs.specs.Envelope.{ciphers, envelope}
 use Rattle.nas_5gs.specs.Seal.{sealRefusals, sealRefusal, opaqueRefusals, opaqueRefusal}
@@ -44,58 +41,26 @@ use Rattle.nas_5gs.proofs.Passed.{initial-whole, rooms}
 use Rattle.nas_5gs.specs.Open.{typeOf, openRefusals, openRefusal, roomFor}
 use Rattle.nas_5gs.specs.Eps.{epsPlace, notEps, epsMessage, sealEpsRefusals, sealEpsRefusal, openEpsRefusals, openEpsRefusal, epsHanded, epsOpened}
 use Rattle.nas_5gs.specs.Containers.{containerPlace, containerBearer, containerDirection, s1Count, s1Value, s1ToN1, s1ToN1Refusals, s1ToN1Refusal}
-use Rattle.promises.specs.Calls.{create, restore, makes, Call, setWindow, reselect, seal5gs, sealOpaque, sealInitial, open5gs, sealEps, openEps, makeN1ToS1, verifyN1ToS1, makeS1ToN1, verifyS1ToN1, Outcome, outcome, gives, lent, placeIn}
+use Rattle.promises.specs.Calls.{Call, setWindow, reselect, seal5gs, sealOpaque, sealInitial, open5gs, sealEps, openEps, makeN1ToS1, verifyN1ToS1, makeS1ToN1, verifyS1ToN1, Outcome, outcome, gives, lent, placeIn}
 use Rattle.promises.specs.Demand1.{numbersOf, Demand1, MayBeLate, Demand1Uses, HandsOver, Opened, plain5gs, Demand1Open, Built, Demand1Making, Demand1Changes}
-use Rattle.promises.proofs.Shapes.{refusalOf, found, plain, look, inside, carried, openedAs, epsFound, epsAs, octetFound, octetRefused, octetAs, octetUsed}
+use Rattle.promise.proofs.Told.{Told, fits-room, told-alone, told-over, told-received}
+use Rattle.promises.proofs.Shapes.{holding, refusalOf, found, plain, look, inside, carried, openedAs, epsFound, epsAs, octetFound, octetRefused, octetAs, octetUsed}
 use Rattle.promises.proofs.Passing.{passes, alone, sends, gives-passed, gives-refused, uses-passed}
 use Rattle.promises.proofs.Numbers.{Among, there, or-right, refusal-listed, refusal-not-8, look-listed, carried-listed, fault-first}
 use Rattle.promises.proofs.Opening.{payload-length, eps-sealed}
 use Rattle.promises.proofs.Seconds.{seconds, second-left, told-second}
 use Rattle.promises.proofs.Taking.{Answering, left, open-answering, eps-answering, open-left, eps-left, envelope-long}
 
--- what demand 1 says of one outcome
-record Told (s : List ℕ) (x : Context) (out : List ℕ) (o : Outcome) : Type 0 where
-  answers : Among s (o .values .number)
-  kept : (o .values .number ≡ 0 → ⊥) → (o .values .number ≡ 8 → ⊥) → (o .values ≡ refusal (o .values .number)) × (o .context ≡ x) × (o .output ≡ out)
-  behind : drop (o .values .wrote) (o .output) ≡ drop (o .values .wrote) out
-  room : length (o .output) ≡ length out
-  within : o .values .wrote ≤ length out
+told-sends : (s : List ℕ) (x : Context) (out : List ℕ) (p : ℕ) (made : ℕ → List ℕ) → length (made (nextAt x p)) ≤ length out → Told s x out (sends x p made out)
+unfolding useNext
+told-sends s x out p made fit =
+    let c = nextAt x p in
+    told-over s x out (useValues (use′.Used c (length (made c)))) (used x p c) (made c) (inl refl) refl fit
 
-module _ (s : List ℕ) (x : Context) (out : List ℕ) where
-  told-alone : (n : ℕ) → In n s → Told s x out (alone n x out)
-  told-alone n h = record { answers = inr h; kept = λ a b. (refl, refl, refl); behind = refl; room = refl; within = omega arith }
-
-  -- a success, or 8
-  told-over : (v : Values) (y : Context) (octets : List ℕ) → (v .number ≡ 0) ⊎ ((v .number ≡ 8) × In 8 s) → v .wrote ≡ length octets
-      → length octets ≤ length out → Told s x out (record { values = v; context = y; output = over octets out })
-  told-over v y octets number wrote fit =
-      record {
-        answers = elim number [ inl e ↦ inl e | inr e ↦ inr (subst (λ (n : ℕ). In n s) (sym (e .0)) (e .1)) ];
-        kept = λ a b. elim number [ inl e ↦ absurd (a e) | inr e ↦ absurd (b (e .0)) ];
-        behind = rw wrote (drop-append-seam octets (drop (length octets) out));
-        room = simp (length-append, length-drop) (omega arith);
-        within = omega arith;
-      }
-
-  told-sends : (p : ℕ) (made : ℕ → List ℕ) → length (made (nextAt x p)) ≤ length out → Told s x out (sends x p made out)
-  unfolding useNext
-  told-sends p made fit =
-      let c = nextAt x p in
-      told-over (useValues (use′.Used c (length (made c)))) (used x p c) (made c) (inl refl) refl fit
-
-  told-received : {A : Type 0} (v : A → Values) (no′ yes′ : ℕ → A) (plain-of : ℕ → List ℕ) (a : Answering v no′ yes′ plain-of) (p : ℕ) (o : Opening)
-      → ((n : ℕ) → v (no′ n) ≡ refusal n) → In 6 s → In 7 s → In 8 s → ((c : ℕ) → length (plain-of c) ≤ length out)
-      → Told s x out (left v no′ yes′ plain-of a x p out o)
-  told-received v no′ yes′ plain-of a p None alike six seven eight fit = rw (alike 6) (told-alone 6 six)
-  told-received v no′ yes′ plain-of a p Wrong alike six seven eight fit = rw (alike 7) (told-alone 7 seven)
-  told-received v no′ yes′ plain-of a p (Late c) alike six seven eight fit =
-      told-over (v (yes′ c)) (usedLate x p c) (plain-of c) (elim (a .number c) [ inl e ↦ inl e | inr e ↦ inr (e, eight) ]) (a .wrote c) (fit c)
-  told-received v no′ yes′ plain-of a p (Forward c) alike six seven eight fit =
-      told-over (v (yes′ c)) (used x p c) (plain-of c) (elim (a .number c) [ inl e ↦ inl e | inr e ↦ inr (e, eight) ]) (a .wrote c) (fit c)
-
--- what is not refused fits the room
-fits-room : (l : List ℕ) (i room n : ℕ) → first l ≡ 0 → getD l i 0 ≡ 5 when (ltb room n) → n ≤ room
-fits-room l i room n e q = ltb-false room n (off 5 (ltb room n) (omega arith) (sym q ∙ passed l e i))
+-- a success, or 8
+with-8 : (s : List ℕ) {n : ℕ} → In 8 s → (n ≡ 0) ⊎ (n ≡ 8) → (n ≡ 0) ⊎ ((n ≡ 8) × In 8 s)
+with-8 s eight (inl e) = inl e
+with-8 s eight (inr e) = inr (e, eight)
 
 -- the N1-to-S1 container has no code, so none is wrong
 never-wrong : (l : Candidate) → tryForward (λ c. true) l ≡ Wrong → ⊥
@@ -146,8 +111,8 @@ told-passes (open5gs d k m out out2) x e =
     let p = placeOf d k in
     let h : length m - 7 ≤ length out =
     rooms (typeOf m) f (length m - 7) (length out) (length out2) (fits-room (openRefusals x m room) 6 room (length m - 7) e refl) .0 in
-    told-received s x out openValues open′.Refused (openedAs x p b f m out) (plain x p b f m out) (open-answering x p b f m out) p (found x p b f m out)
-    (λ n. refl) (there 6 s refl) (there 7 s refl) (there 8 s refl)
+    told-received s x out holding openValues open′.Refused (openedAs x p b f m out) (plain x p b f m out) (open-answering x p b f m out) p (found x p b f m out)
+    (λ n. refl) (λ c. with-8 s (there 8 s refl) (open-answering x p b f m out .number c)) (there 6 s refl) (there 7 s refl)
     (λ c. omega (arith, payload-length (x .core) c b f (drop 7 m) (ciphers (typeOf m)), length-drop 7 m))
 told-passes (sealEps inner out) x e =
     let h : 6 + length inner ≤ length out = fits-room (sealEpsRefusals x inner (length out)) 3 (length out) (6 + length inner) e refl in
@@ -156,8 +121,8 @@ told-passes (sealEps inner out) x e =
 told-passes (openEps m out) x e =
     let s = numbersOf (openEps m out) in
     let h : length m - 6 ≤ length out = fits-room (openEpsRefusals x m (length out)) 4 (length out) (length m - 6) e refl in
-    told-received s x out epsOpenValues eps.Refused (epsAs x m out) (λ c. drop 6 m) (eps-answering x m out) epsPlace (epsFound x m out)
-    (λ n. refl) (there 6 s refl) (there 7 s refl) (there 8 s refl) (λ c. omega (arith, length-drop 6 m))
+    told-received s x out holding epsOpenValues eps.Refused (epsAs x m out) (λ c. drop 6 m) (eps-answering x m out) epsPlace (epsFound x m out)
+    (λ n. refl) (λ c. with-8 s (there 8 s refl) (eps-answering x m out .number c)) (there 6 s refl) (there 7 s refl) (λ c. omega (arith, length-drop 6 m))
 told-passes makeN1ToS1 x e = record { answers = inl refl; kept = λ a b. absurd (a refl); behind = refl; room = refl; within = omega arith }
 told-passes (verifyN1ToS1 n) x e =
     let s = numbersOf (verifyN1ToS1 n) in told-octet s x n (octetFound x n) (there 6 s refl) (octet-not-wrong x n)

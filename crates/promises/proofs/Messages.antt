@@ -12,7 +12,7 @@ use Rattle.count.specs.Rule.{exhausted, opening}
 use Rattle.count.specs.Run.{Act, stay, act, actOf, used, Valid}
 use Rattle.count.specs.Machine.{Machine, recordsAfter}
 use Rattle.nas_core.specs.declared.Core.{Core}
-use Rattle.nas_core.specs.Keyed.{wraps, codeBy, payload}
+use Rattle.nas_core.specs.Keyed.{wraps, payload}
 use Rattle.nas_core.specs.Refusals.{limit}
 use Rattle.nas_core.specs.Verify.{fits, verifyOf}
 use Rattle.nas_5gs.specs.declared.Context.{Context}
@@ -26,6 +26,7 @@ use Rattle.promise.specs.Words.{Words}
 use Rattle.promise.specs.Kept.{Keeping}
 use Rattle.promise.specs.Messages.{Kind, ByRule, AllByRule}
 use Rattle.promise.proofs.Acts.{unless}
+use Rattle.promise.proofs.Sealed.{fits-same, verify-is}
 use Rattle.promise.proofs.Answers.{named, names, takes-taken}
 use Rattle.promises.specs.Calls.{Call, setWindow, reselect, seal5gs, sealOpaque, sealInitial, open5gs, sealEps, openEps, makeN1ToS1, verifyN1ToS1, makeS1ToN1, verifyS1ToN1, Outcome, gives, placeIn, contextAfter, countsUsed, usedBy}
 use Rattle.promises.specs.Words.{SameKeys, recordOf, Uses, TakenAs}
@@ -35,7 +36,7 @@ use Rattle.promises.proofs.Soundness.{Good, does-valid, stays-four}
 use Rattle.promises.proofs.Passing.{alone}
 use Rattle.promises.proofs.Faults.{Faultless, stays-faultless}
 use Rattle.promises.proofs.Opening.{Sealed, envelope-sealed, eps-sealed, envelope-same, eps-same}
-use Rattle.promises.proofs.Taking.{no-fault, open-answering, eps-answering, open-left, eps-left, has-room, open-passes, eps-passes, envelope-type, envelope-first, envelope-long, envelope-back, eps-first, verify-is}
+use Rattle.promises.proofs.Taking.{no-fault, open-answering, eps-answering, open-left, eps-left, has-room, open-passes, eps-passes, envelope-type, envelope-first, envelope-long, envelope-back, eps-first}
 
 -- The context that refuses every reselection to null. What is kept holds of it over any calls, and ours is it as long as no reselection to null is accepted.
 abbrev pub toNull : Call → Bool
@@ -197,16 +198,6 @@ messages =
       Names = λ x m c c′. Uses (gives (openCall m c) x) c′;
     }
 
-fits-one : (x y : Core) → SameKeys y x → (b d p : ℕ) (m : List ℕ) (c : ℕ) → fits y c b d p m ≡ fits x c b d p m
-unfolding fits wraps codeBy
-fits-one x y k b d p m c = rw (k .integrity, k .integrity-key)
-
-fits-same : (x y : Core) → SameKeys y x → (b d p : ℕ) (m : List ℕ) → _≡_ {A = ℕ → Bool} (λ c. fits x c b d p m) (λ c. fits y c b d p m)
-fits-same x y k b d p m = λ i c. one c i
-  where
-    one : (c : ℕ) → fits x c b d p m ≡ fits y c b d p m
-    one c = sym (fits-one x y k b d p m c)
-
 if-none : (n : ℕ) (a : Act) → n ≡ 0 → unless n a ≡ a
 if-none n a e = rw e refl
 
@@ -215,7 +206,7 @@ module _ (x : Context) (g : Guarded x) (c : ℕ) where
   found-is : (y : Core) → SameKeys y (x .core) → (p b d q : ℕ) (m body : List ℕ) → Sealed (x .core) c b d q m body
       → verifyOf (x .core) (recordAt x p) b d q m ≡ opening 8 false (λ c′. fits y c′ b d q m) (x .core .size) (recordAt x p) (c % 256)
   found-is y same p b d q m body s =
-      verify-is x p c b d q m body (g .good .guarded) s
+      verify-is (x .core) (recordAt x p) c b d q m body (g .good .guarded) s
       ∙ ap (λ (f : ℕ → Bool). opening 8 false f (x .core .size) (recordAt x p) (c % 256)) (fits-same (x .core) y same b d q m)
 
   acts-as : (o o′ : Opening) → o ≡ o′ → actOf (wraps (x .core)) o ≡ actOf false o′

@@ -1,17 +1,15 @@
 -- Which numbers a call's refusals can have.
-use Prim.Native.Nat.{ℕ, _+_, _-_}
+use Prim.Native.Nat.{ℕ, _-_}
 use mathlib.Core.Path.{_≡_, refl, subst}
-use mathlib.Core.Bool.{Bool, true, false, cond, not, _||_, _&&_}
-use mathlib.Core.Logic.{_⊎_, inl, inr}
+use mathlib.Core.Bool.{true, false, not, _||_}
+use mathlib.Core.Logic.{inl, inr}
 use mathlib.Core.List.{List, [], _∷_}
-use native.Mathlib.Omega.{arith}
 use lib.ListN.{length, getD}
-use lib.Dec.{eqb, ltb, leb}
-use borrow.Author.Tests.{eqb-true, eq-eqb, ne-eqb}
-use Rattle.count.specs.Rule.{exhausted}
+use lib.Dec.{eqb, ltb}
+use borrow.Author.Tests.{ne-eqb}
 use Rattle.count.specs.Run.{In}
-use Rattle.refusals.specs.Order.{_when_, first}
-use Rattle.nas_core.specs.Refusals.{limit, unbuilt, coreFault, sendRefusals, handRefusals}
+use Rattle.refusals.specs.Order.{_when_}
+use Rattle.nas_core.specs.Refusals.{limit, unbuilt, coreFault}
 use Rattle.nas_core.specs.Verify.{fits}
 use Rattle.look.specs.Look.{notKnown, notTogether, wrongWay, lookRefusals, lookOf}
 use Rattle.initial.specs.Messages.{isInitial}
@@ -27,72 +25,16 @@ use Rattle.nas_5gs.specs.Initial.{initialRefusals, initialRefusal}
 use Rattle.nas_5gs.specs.Open.{typeOf, openRefusals, openRefusal, roomFor, insideNumber}
 use Rattle.nas_5gs.specs.Eps.{epsPlace, notEps, sealEpsRefusals, sealEpsRefusal, openEpsRefusals, openEpsRefusal}
 use Rattle.nas_5gs.specs.Containers.{containerBearer, containerDirection, noneLeft, s1Count, s1ToN1Refusals, s1ToN1Refusal, otherAlgorithms, verifyS1ToN1Refusals, verifyS1ToN1Refusal}
+pub use Rattle.promise.proofs.Numbers.{there, not-there, or-right, Among}
+use Rattle.promise.proofs.Numbers.{isIn, none, _&_, first-among, may, core-among, send-each, hand-each, subset, widen}
 use Rattle.promises.specs.Calls.{Call, setWindow, reselect, seal5gs, sealOpaque, sealInitial, open5gs, sealEps, openEps, makeN1ToS1, verifyN1ToS1, makeS1ToN1, verifyS1ToN1}
 use Rattle.promises.specs.Demand1.{numbersOf}
 use Rattle.promises.proofs.Shapes.{refusalOf}
 
--- a number stands in a list, by computing
-abbrev isIn : ℕ → List ℕ → Bool
-isIn n [] = false
-isIn n (a ∷ l) = eqb n a || isIn n l
-
-or-either : (n a : ℕ) (b : Bool) → eqb n a || b ≡ true → (n ≡ a) ⊎ (b ≡ true)
-or-either n a b e = go (eqb n a) refl e
-  where
-    go : (t : Bool) → eqb n a ≡ t → t || b ≡ true → (n ≡ a) ⊎ (b ≡ true)
-    go true q h = inl (eqb-true n a q)
-    go false q h = inr h
-
-pub or-right : (t b : Bool) → b ≡ true → t || b ≡ true
-or-right true b e = refl
-or-right false b e = e
-
-pub there : (n : ℕ) (l : List ℕ) → isIn n l ≡ true → In n l
-there n [] e = let z : _≡_ {A = ℕ} 0 1 = cc in absurd (omega arith)
-there n (a ∷ l) e = elim (or-either n a (isIn n l) e) [ inl q ↦ inl q | inr h ↦ inr (there n l h) ]
-
-is-in : (n : ℕ) (l : List ℕ) → In n l → isIn n l ≡ true
-is-in n (a ∷ l) (inl e) = simp (eq-eqb n a e)
-is-in n (a ∷ l) (inr h) = or-right (eqb n a) (isIn n l) (is-in n l h)
-
-pub not-there : (n : ℕ) (l : List ℕ) → isIn n l ≡ false → In n l → ⊥
-not-there n l e h = let z : _≡_ {A = ℕ} 0 1 = cc (is-in n l h) in omega arith
-
--- 0, or one of some numbers
-abbrev pub Among : List ℕ → ℕ → Type 0
-Among s n = (n ≡ 0) ⊎ In n s
-
-infixr 20 _&_
-data Each (s : List ℕ) : List ℕ → Type 0 where
-  none : Each s []
-  _&_ : {n : ℕ} {l : List ℕ} → Among s n → Each s l → Each s (n ∷ l)
-
-either : (s : List ℕ) (n m : ℕ) (t : Bool) → Among s n → Among s m → Among s (cond t m n)
-either s n m true a b = b
-either s n m false a b = a
-
-first-among : (s l : List ℕ) → Each s l → Among s (first l)
-first-among s [] h = inl refl
-first-among s (n ∷ l) (a & h) = either s n (first l) (eqb n 0) a (first-among s l h)
-
-module _ (s : List ℕ) where
-  may : (n : ℕ) (t : Bool) → isIn n s ≡ true → Among s (n when t)
-  may n true e = inr (there n s e)
-  may n false e = inl refl
-
-  fault-among : (x : Context) → isIn 13 s ≡ true → isIn 14 s ≡ true → isIn 16 s ≡ true → Among s (faultOf x)
-  unfolding faultOf coreFault
-  fault-among x a b c =
-      first-among s (coreFault (x .core) ∷ 16 when anyOver (four (nextAt x)) ∷ []) (
-      first-among s (13 when unbuilt (x .core .integrity) (x .core .ciphering) ∷ 14 when (ltb 64 (x .core .size)) ∷ []) (
-      may 13 (unbuilt (x .core .integrity) (x .core .ciphering)) a & may 14 (ltb 64 (x .core .size)) b & none) &
-      may 16 (anyOver (four (nextAt x))) c & none)
-
-  send-each : (header n room next : ℕ) → isIn 4 s ≡ true → isIn 5 s ≡ true → isIn 6 s ≡ true → Each s (sendRefusals header n room next)
-  send-each header n room next a b c = (may 4 (ltb limit n) a & may 5 (ltb room (header + n)) b & may 6 (leb exhausted next) c & none)
-
-  hand-each : (header n room : ℕ) → isIn 4 s ≡ true → isIn 5 s ≡ true → Each s (handRefusals header n room)
-  hand-each header n room a b = (may 4 (ltb limit (n - header)) a & may 5 (ltb room (n - header)) b & none)
+fault-among : (s : List ℕ) (x : Context) → isIn 13 s ≡ true → isIn 14 s ≡ true → isIn 16 s ≡ true → Among s (faultOf x)
+unfolding faultOf
+fault-among s x a b c =
+    first-among s (coreFault (x .core) ∷ 16 when anyOver (four (nextAt x)) ∷ []) (core-among s (x .core) a b & may s 16 (anyOver (four (nextAt x))) c & none)
 
 -- the numbers of the refusals before the code is looked at
 abbrev pub early : Call → List ℕ
@@ -162,21 +104,7 @@ refusal-early (verifyS1ToN1 v) x =
     may s 6 (noneLeft x) refl & may s 7 (not (fits (x .core) s1Count containerBearer containerDirection 0 v)) refl & none)
 
 -- they are numbers of the call, and none is 8
-subset : List ℕ → List ℕ → Bool
-subset [] s = true
-subset (a ∷ l) s = isIn a s && subset l s
-
-and-parts : (a b : Bool) → a && b ≡ true → (a ≡ true) × (b ≡ true)
-and-parts true b e = (refl, e)
-and-parts false b e = (e, (cc))
-
-widen : (l s : List ℕ) → subset l s ≡ true → (n : ℕ) → In n l → In n s
-unfolding subset
-widen (a ∷ l) s e n (inl q) = rw q (there a s (and-parts (isIn a s) (subset l s) e .0))
-widen (a ∷ l) s e n (inr h) = widen l s (and-parts (isIn a s) (subset l s) e .1) n h
-
 early-in : (k : Call) → (subset (early k) (numbersOf k) ≡ true) × (isIn 8 (early k) ≡ false)
-unfolding subset
 early-in (setWindow n) = (refl, refl)
 early-in (reselect i c ik ck) = (refl, refl)
 early-in (seal5gs t d k inner out) = (refl, refl)
@@ -229,7 +157,7 @@ look-listed t d m =
     first-among s (lookRefusals t d m) (may s 9 (notKnown m) refl & may s 10 (notTogether t m) refl & may s 11 (wrongWay d m) refl & none)
 
 pub carried-listed : (looked : ℕ) (h : Hidden) → Among (9 ∷ 10 ∷ 11 ∷ []) looked → Among (9 ∷ 10 ∷ 11 ∷ 18 ∷ []) (insideNumber looked h)
-unfolding insideNumber subset
+unfolding insideNumber
 carried-listed looked h a =
     let s : List ℕ = 9 ∷ 10 ∷ 11 ∷ 18 ∷ [] in
     first-among s (looked ∷ 18 when isRefused h ∷ []) (wider a & may s 18 (isRefused h) refl & none)

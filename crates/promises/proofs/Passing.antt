@@ -1,7 +1,7 @@
 -- Every call is a refusal or what it does once its refusals let it pass.
 use Prim.Native.Nat.{ℕ}
 use mathlib.Core.Path.{_≡_, refl, sym, ap, _∙_}
-use mathlib.Core.Bool.{Bool, true, false, cond}
+use mathlib.Core.Bool.{Bool, true, false}
 use mathlib.Core.List.{List, []}
 use lib.Dec.{eqb}
 use native.Mathlib.Omega.{arith}
@@ -18,13 +18,15 @@ use Rattle.nas_5gs.specs.declared.EpsOpenAnswer.the-variants as eps
 use Rattle.nas_5gs.specs.declared.OctetAnswer.the-variants as octet
 use Rattle.nas_5gs.specs.declared.VerifyAnswer.the-variants as verify
 use Rattle.nas_5gs.specs.Places.{directionNo, bearerNo, placeOf, nextAt}
-use Rattle.nas_5gs.specs.Leaves.{Leaves, leaves, useNext, received, Values, refusal, success, changeValues, useValues, openValues, epsOpenValues, octetValues, verifyValues}
+use Rattle.nas_5gs.specs.Leaves.{leaves, useNext, received, success, changeValues, useValues, openValues, epsOpenValues, octetValues, verifyValues}
 use Rattle.nas_5gs.specs.Changes.{coreWith, keptFor, reselectOf, resized, windowOf}
 use Rattle.nas_5gs.specs.Envelope.{envelope}
 use Rattle.nas_5gs.specs.Seal.{sent, sealOf, sealOpaqueOf}
 use Rattle.nas_5gs.specs.Initial.{sentInitial, initialOf}
 use Rattle.nas_5gs.specs.Eps.{epsPlace, epsMessage, sealEpsOf, epsOpened, openEpsOf}
 use Rattle.nas_5gs.specs.Containers.{containerPlace, lastOctet, s1ToN1, n1ToS1Of, verifyN1ToS1Of, s1ToN1Of, verifyS1ToN1Of}
+pub use Rattle.promise.proofs.Told.{alone}
+use Rattle.promise.proofs.Told.{split}
 use Rattle.promises.specs.Calls.{Call, setWindow, reselect, seal5gs, sealOpaque, sealInitial, open5gs, sealEps, openEps, makeN1ToS1, verifyN1ToS1, makeS1ToN1, verifyS1ToN1, Outcome, outcome, gives, lent}
 use Rattle.promises.proofs.Shapes.{refusalOf, openedFirst, first-open, octetFound, octetRefused, octetUsed}
 
@@ -45,18 +47,6 @@ passes makeN1ToS1 x = outcome octetValues (lastOctet x (nextAt x containerPlace)
 passes (verifyN1ToS1 s) x = outcome verifyValues (received x containerPlace (octetRefused x s) (octetUsed x s) (octetFound x s))
 passes (makeS1ToN1 ncc ngksi out) x = sends x containerPlace (λ c. s1ToN1 (x .core) ncc ngksi) out
 passes (verifyS1ToN1 v) x = sends x containerPlace (λ c. []) []
-
--- a refusal alone
-abbrev pub alone : ℕ → Context → List ℕ → Outcome
-alone n x out = record { values = refusal n; context = x; output = out }
-
-split : {A : Type 0} (v : A → Values) (n : ℕ) (r : ℕ → Leaves A) (l : Leaves A)
-    → outcome v (refusedOr n r l) ≡ refusedOr n (λ k. outcome v (r k)) (outcome v l)
-split v n r l = go (eqb n 0)
-  where
-    go : (t : Bool) → outcome v (cond t l (r n)) ≡ cond t (outcome v l) (outcome v (r n))
-    go true = refl
-    go false = refl
 
 pub gives-is : (k : Call) (x : Context) → gives k x ≡ refusedOr (refusalOf k x) (λ n. alone n x (lent k)) (passes k x)
 unfolding windowOf reselectOf sealOf sealOpaqueOf sent initialOf sentInitial sealEpsOf openEpsOf n1ToS1Of verifyN1ToS1Of s1ToN1Of verifyS1ToN1Of

@@ -1,5 +1,5 @@
 -- When an open call takes a message as a COUNT: by what its opening finds.
-use Prim.Native.Nat.{ℕ, _+_, _-_, _%_, _≤_, _<_, min}
+use Prim.Native.Nat.{ℕ, _+_, _-_, _≤_, _<_, min}
 use mathlib.Core.Path.{_≡_, refl, ap, _∙_}
 use mathlib.Core.Bool.{Bool, true, false, cond, _&&_}
 use mathlib.Core.Logic.{_⊎_, inl, inr}
@@ -9,11 +9,10 @@ use lib.ListN.{length, getD, drop}
 use lib.Dec.{eqb}
 use borrow.Author.Tests.{eqb-true, eq-eqb, ne-eqb, le-ltb}
 use Rattle.count.specs.declared.Opening.{Opening}
-use Rattle.count.specs.Rule.{exhausted, distanceOf, opening}
+use Rattle.count.specs.Rule.{exhausted, distanceOf}
 use Rattle.nas_core.specs.declared.Core.{Core}
-use Rattle.nas_core.specs.Keyed.{wraps, payload}
+use Rattle.nas_core.specs.Keyed.{payload}
 use Rattle.nas_core.specs.Refusals.{limit, unbuilt, coreFault}
-use Rattle.nas_core.specs.Verify.{fits, verifyOf}
 use Rattle.envelope.specs.Initial.{beside}
 use Rattle.nas_5gs.specs.declared.Context.{Context}
 use Rattle.nas_5gs.specs.declared.Direction.{Direction}
@@ -29,7 +28,7 @@ use Rattle.promises.specs.Calls.{open5gs, openEps, Outcome, gives}
 use Rattle.promise.proofs.Answers.{left as leftBy}
 pub use Rattle.promise.proofs.Answers.{Answering}
 use Rattle.promises.proofs.Shapes.{holding, found, plain, inside, carried, openedAs, first-open, epsFound, epsAs}
-use Rattle.promises.proofs.Opening.{Sealed, envelope-sealed, payload-length, payload-twice}
+use Rattle.promises.proofs.Opening.{envelope-sealed, payload-length, payload-twice}
 
 pub no-fault : (x : Context) → unbuilt (x .core .integrity) (x .core .ciphering) ≡ false → x .core .size ≤ 64 → ((p : ℕ) → p < 4 → nextAt x p ≤ exhausted)
     → faultOf x ≡ 0
@@ -184,9 +183,3 @@ module _ (x : Core) (t c b d : ℕ) (inner : List ℕ) where
 pub eps-first : (x : Core) (c : ℕ) (inner : List ℕ) → getD (epsMessage x c inner) 0 0 ≡ 0x17
 unfolding epsMessage
 eps-first x c inner = refl
-
--- under non-null integrity the opening is that of the COUNT rule, at the last octet of c
-pub verify-is : (x : Context) (p c b d q : ℕ) (m body : List ℕ) → wraps (x .core) ≡ false → Sealed (x .core) c b d q m body
-    → verifyOf (x .core) (recordAt x p) b d q m ≡ opening 8 false (λ c′. fits (x .core) c′ b d q m) (x .core .size) (recordAt x p) (c % 256)
-unfolding verifyOf
-verify-is x p c b d q m body guarded s = rw (guarded, s .octet-there)

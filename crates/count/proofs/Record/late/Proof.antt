@@ -22,7 +22,7 @@ returns-4 c = let a = c .before .before .before .before .before .args in sym (la
 returns-5 : tie.Need-returns-5
 returns-5 c =
     let a = c .before .before .before .before .before .before .before .args in
-    let e = c .before .before .before .before .before .distance-up .ensures in
+    let e = c .before .before .before .before .before .distance-up .ensures .0 in
     let z : bit (a .self .bits) (distance 8 (a .s) (a .self .next - 1) - 1) ≡ 0 = cc in
     simp (e, late-there 8 (a .size) (a .self) (a .s) (record { some-used = omega arith; down = omega arith; near = omega arith; low = omega arith; clear = z }))
 

@@ -1,7 +1,7 @@
 use borrow.Author.Tests.{lt-ltb, le-ltb}
-use Rattle.envelope.specs.Envelope.{wrongType}
-use Rattle.envelope.proofs.is_wrong_type.Statement.{statement}
-use Rattle.envelope.proofs.is_wrong_type.Tie as tie
+use Rattle.nas_core.specs.Types.{wrongType}
+use Rattle.nas_core.proofs.is_wrong_type.Statement.{statement}
+use Rattle.nas_core.proofs.is_wrong_type.Tie as tie
 
 returns : tie.Need-returns
 unfolding wrongType

@@ -1,8 +1,8 @@
 use borrow.Author.Tests.{eq-eqb, ne-eqb}
-use Rattle.envelope.specs.Envelope.{ciphers}
+use Rattle.nas_core.specs.Types.{ciphers}
 use borrow.Author.Needs.{needs}
-use Rattle.envelope.proofs.is_ciphering.Statement.{statement}
-use Rattle.envelope.proofs.is_ciphering.Tie as tie
+use Rattle.nas_core.proofs.is_ciphering.Statement.{statement}
+use Rattle.nas_core.proofs.is_ciphering.Tie as tie
 
 returns : tie.Need-returns
 unfolding ciphers

@@ -1,10 +1,10 @@
-pub mod Tables
-pub mod Lists
-pub mod Field
-pub mod Words
-pub mod Keys
-pub mod Lengths
+pub use Rattle.aes_block.proofs.Tables
+pub use Rattle.aes_block.proofs.Lists
+pub use Rattle.aes_block.proofs.Lengths
+pub use Rattle.aes_block.proofs.Field
 pub mod Stream
+pub mod Over
 pub mod Mac
+pub mod Counters
 pub mod Octets
 pub mod Laws

@@ -5,14 +5,15 @@ use mathlib.Core.Bool.{cond}
 use mathlib.Core.List.{List, [], _∷_, _++_, append-assoc}
 use Prim.Native.Nat.{ℕ, zero, suc, _+_, _-_, _*_, _/_, _<_, _≤_}
 use native.Mathlib.Omega.{arith}
-use native.Mathlib.Decide.{ℕ-discrete}
-use lib.Dec.{eqb}
+use native.Mathlib.Decide.{ℕ-discrete, decLt}
+use lib.Dec.{eqb, ltb}
 use lib.ListN.{length, take, drop, getD, replicate, length-append, length-take, length-drop, List·getD-append, List·getD-eq-default}
 use lib.Seq.{ext-getD, getD-append-add, getD-at, getD-take, getD-drop, drop-append-le, take-all}
-use borrow.Author.Tests.{eq-eqb, ne-eqb}
+use borrow.Author.Tests.{eq-eqb, ne-eqb, lt-ltb, le-ltb}
 use Rattle.aes.specs.Octets.{sixteen, xor}
 use Rattle.aes.specs.Cmac.{block, lastBlock, chain, cmacAt, cmacBy}
-use Rattle.aes.proofs.Tables.{table-at}
+use Rattle.aes_block.proofs.Tables.{table-at}
+use Rattle.aes_block.proofs.Lists.{by-places}
 
 -- octet i of a head h, a message m and what follows them
 module _ (h m : List ℕ) where
@@ -27,6 +28,24 @@ module _ (h m : List ℕ) where
 
   pub past-end : (x i : ℕ) → length h + length m < i → getD (h ++ m ++ (x ∷ [])) i 0 ≡ 0
   past-end x i p = List·getD-eq-default (h ++ m ++ (x ∷ [])) 0 (simp length-append (omega arith))
+
+  -- 16 octets that lie in the message
+  pub in-message : (z : List ℕ) (k i : ℕ) → k ≡ length h + i → i + 16 ≤ length m
+      → sixteen (λ j. getD m (i + j) 0) ≡ sixteen (λ j. getD (h ++ m ++ z) (k + j) 0)
+  in-message z k i e p =
+      by-places (λ j. getD m (i + j) 0) 16 (sixteen (λ j. getD (h ++ m ++ z) (k + j) 0)) refl
+      (λ j q. table-at (λ j. getD (h ++ m ++ z) (k + j) 0) 16 j q ∙ at-message z (k + j) (i + j) (omega arith) (omega arith))
+
+  -- 8 octets of the head, and 8 of the message
+  pub in-halves : (z : List ℕ) → length h ≡ 8 → 8 ≤ length m
+      → sixteen (λ j. cond (ltb j 8) (getD h j 0) (getD m (j - 8) 0)) ≡ sixteen (λ j. getD (h ++ m ++ z) j 0)
+  in-halves z e p =
+      by-places (λ j. cond (ltb j 8) (getD h j 0) (getD m (j - 8) 0)) 16 (sixteen (λ j. getD (h ++ m ++ z) j 0)) refl
+      (λ j q. table-at (λ j. getD (h ++ m ++ z) j 0) 16 j q ∙ go j q (decLt j 8))
+    where
+      go : (j : ℕ) → j < 16 → Dec (j < 8) → getD (h ++ m ++ z) j 0 ≡ cond (ltb j 8) (getD h j 0) (getD m (j - 8) 0)
+      go j q (yes r) = rw (lt-ltb _ _ r) (at-head z j (omega arith))
+      go j q (no r) = let s : 8 ≤ j = omega arith in rw (le-ltb _ _ s) (at-message z j (j - 8) (omega arith) (omega arith))
 
 -- zeros behind a list are what is read there anyway
 zeros-read : (n i : ℕ) → _≡_ {A = ℕ} (getD (replicate n 0) i 0) 0

@@ -3,13 +3,13 @@ ghost use mathlib.Core.Path.{_≡_};
 ghost use mathlib.Core.Bool.{cond};
 ghost use mathlib.Core.List.{_∷_, [], _++_};
 ghost use Prim.Native.Nat.{_+_, _-_, _*_, _/_, _%_, _^_, _<_};
-ghost use lib.ListN.{getD};
+ghost use lib.ListN.{length, getD};
 ghost use Rattle.aes.specs.Octets.{sixteen, xor};
-ghost use Rattle.aes.specs.Field.{sboxTable};
+ghost use Rattle.aes_block.specs.Mix.{mixTable};
 ghost use Rattle.aes.specs.Cipher.{cipher};
 ghost use Rattle.aes.specs.Cmac.{shiftLeft, double as doubleOf, subkey1, cmacBy, cmacOf};
-use crate::cipher::encrypt_with;
-use crate::sbox::sbox_table;
+use aes_block::encrypt_with;
+use aes_block::mix_table;
 
 const R128: [u8; 16] = [0, 0, 0, 0, 0, 0, 0, 0, 0, 0, 0, 0, 0, 0, 0, 135];
 
@@ -91,7 +91,7 @@ fn octet_at(head: &[u8], message: &[u8], i: usize) -> u8
     }
 }
 
-fn block_at(head: &[u8], message: &[u8], k: usize) -> [u8; 16]
+fn gathered_block(head: &[u8], message: &[u8], k: usize) -> [u8; 16]
     requires { ⌜ k + 15 < 2 ^ 64 ⌝ }
     ensures { λ r. ⌜ r ≡ sixteen (λ j. getD (now (head .entry) ++ now (message .entry) ++ (128 ∷ [])) (k + j) 0) ⌝ }
 {
@@ -115,8 +115,83 @@ fn block_at(head: &[u8], message: &[u8], k: usize) -> [u8; 16]
     ]
 }
 
-pub fn subkey(table: &[u8; 256], w: &[u8; 176]) -> [u8; 16]
-    requires { ⌜ now table ≡ sboxTable ⌝ }
+fn sixteen_at(m: &[u8], i: usize) -> [u8; 16]
+    requires { ⌜ i + 15 < length (now m) ⌝ }
+    ensures { λ r. ⌜ r ≡ sixteen (λ j. getD (now (m .entry)) (i + j) 0) ⌝ }
+{
+    [
+        m[i],
+        m[i + 1],
+        m[i + 2],
+        m[i + 3],
+        m[i + 4],
+        m[i + 5],
+        m[i + 6],
+        m[i + 7],
+        m[i + 8],
+        m[i + 9],
+        m[i + 10],
+        m[i + 11],
+        m[i + 12],
+        m[i + 13],
+        m[i + 14],
+        m[i + 15],
+    ]
+}
+
+// The first block: at once where 8 octets of it are the head and 8 the message's, as in 128-NIA2.
+fn first_block(head: &[u8], message: &[u8]) -> [u8; 16]
+    ensures { λ r. ⌜ r ≡ sixteen (λ j. getD (now (head .entry) ++ now (message .entry) ++ (128 ∷ [])) j 0) ⌝ }
+{
+    if head.len() != 8 {
+        return gathered_block(head, message, 0);
+    }
+    if message.len() < 8 {
+        return gathered_block(head, message, 0);
+    }
+    [
+        head[0],
+        head[1],
+        head[2],
+        head[3],
+        head[4],
+        head[5],
+        head[6],
+        head[7],
+        message[0],
+        message[1],
+        message[2],
+        message[3],
+        message[4],
+        message[5],
+        message[6],
+        message[7],
+    ]
+}
+
+// 16 octets of the head and the message from k on: at once where they all lie in the message.
+fn block_at(head: &[u8], message: &[u8], k: usize) -> [u8; 16]
+    requires { ⌜ k + 15 < 2 ^ 64 ⌝ }
+    ensures { λ r. ⌜ r ≡ sixteen (λ j. getD (now (head .entry) ++ now (message .entry) ++ (128 ∷ [])) (k + j) 0) ⌝ }
+{
+    if k == 0 {
+        return first_block(head, message);
+    }
+    if k < head.len() {
+        return gathered_block(head, message, k);
+    }
+    let i = k - head.len();
+    if message.len() < 16 {
+        return gathered_block(head, message, k);
+    }
+    if message.len() - 16 < i {
+        return gathered_block(head, message, k);
+    }
+    sixteen_at(message, i)
+}
+
+pub fn subkey(table: &[u64; 256], w: &[u8; 176]) -> [u8; 16]
+    requires { ⌜ now table ≡ mixTable ⌝ }
     ensures { λ r. ⌜ r ≡ subkey1 (cipher (now (w .entry))) ⌝ }
 {
     double(encrypt_with(table, w, [0u8; 16]))
@@ -141,14 +216,14 @@ fn blocks_before_last(octets: usize) -> usize
 }
 
 pub fn cmac_with(
-    table: &[u8; 256],
+    table: &[u64; 256],
     w: &[u8; 176],
     k1: [u8; 16],
     k2: [u8; 16],
     head: &[u8],
     message: &[u8],
 ) -> [u8; 16]
-    requires { ⌜ now table ≡ sboxTable ⌝ }
+    requires { ⌜ now table ≡ mixTable ⌝ }
     ensures { λ r. ⌜ r ≡ cmacBy (cipher (now (w .entry))) k1 k2 (now (head .entry) ++ now (message .entry)) ⌝ }
 {
     let length = head.len() + message.len();
@@ -170,7 +245,7 @@ pub fn cmac_with(
 pub fn cmac(w: &[u8; 176], head: &[u8], message: &[u8]) -> [u8; 16]
     ensures { λ r. ⌜ r ≡ cmacOf (cipher (now (w .entry))) (now (head .entry) ++ now (message .entry)) ⌝ }
 {
-    let table = sbox_table();
+    let table = mix_table();
     let k1 = subkey(&table, w);
     let k2 = double(k1);
     cmac_with(&table, w, k1, k2, head, message)

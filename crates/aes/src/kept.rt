@@ -4,15 +4,15 @@ ghost use Rattle.aes.specs.Keys.{keyOf};
 use crate::Key;
 use crate::cmac_mode::double;
 use crate::cmac_mode::subkey;
-use crate::expansion::expand_with;
-use crate::sbox::sbox_table;
+use aes_block::expand_key;
+use aes_block::mix_table;
 
 impl Key {
     pub fn of(octets: [u8; 16]) -> Key
         ensures { λ r. ⌜ r ≡ keyOf octets ⌝ }
     {
-        let table = sbox_table();
-        let schedule = expand_with(&table, octets);
+        let schedule = expand_key(octets);
+        let table = mix_table();
         let subkey1 = subkey(&table, &schedule);
         let subkey2 = double(subkey1);
         Key {

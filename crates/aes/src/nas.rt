@@ -5,7 +5,7 @@ ghost use Rattle.aes.specs.Keys.{nia2By, nea2By};
 use crate::Key;
 use crate::cmac_mode::cmac_with;
 use crate::counter_mode::ctr_with;
-use crate::sbox::sbox_table;
+use aes_block::mix_table;
 
 fn head(count: u32, bearer: u8, direction: u8) -> [u8; 8]
     ensures { λ r. ⌜ r ≡ headOf count bearer direction ⌝ }
@@ -26,7 +26,7 @@ fn head(count: u32, bearer: u8, direction: u8) -> [u8; 8]
 pub fn nia2(key: Key, count: u32, bearer: u8, direction: u8, message: &[u8]) -> [u8; 4]
     ensures { λ r. ⌜ r ≡ nia2By key count bearer direction (now (message .entry)) ⌝ }
 {
-    let table = sbox_table();
+    let table = mix_table();
     let w = key.schedule;
     let k1 = key.subkey1;
     let k2 = key.subkey2;
@@ -39,7 +39,7 @@ pub fn nia2(key: Key, count: u32, bearer: u8, direction: u8, message: &[u8]) -> 
 pub fn nea2(key: Key, count: u32, bearer: u8, direction: u8, m: &mut [u8])
     ensures { λ r. ⌜ now (m .exit) ≡ nea2By key count bearer direction (now (m .entry)) ⌝ }
 {
-    let table = sbox_table();
+    let table = mix_table();
     let w = key.schedule;
     let h = head(count, bearer, direction);
     let t = [

@@ -9,10 +9,10 @@ use Rattle.aes.proofs.Key.of.Tie as tie
 returns : tie.Need-returns
 unfolding keyOf subkey2
 returns c =
-    let w = c .before .before .before .before .expand-with .ensures in
+    let w = c .before .before .before .before .before .expand-key .ensures in
     let s = c .before .subkey .ensures ∙ ap (λ w′. subkey1 (cipher w′)) w in
     λ i. record {
-      octets = c .before .before .before .before .before .before .before .args .octets;
+      octets = c .before .before .before .before .before .before .args .octets;
       schedule = w i;
       subkey1 = s i;
       subkey2 = (c .double .ensures ∙ ap double s) i;

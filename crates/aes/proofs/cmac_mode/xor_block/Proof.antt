@@ -1,4 +1,4 @@
-use Rattle.aes.proofs.Lists.{xor-places}
+use Rattle.aes_block.proofs.Lists.{xor-places}
 use borrow.Author.Needs.{needs}
 use Rattle.aes.proofs.cmac_mode.xor_block.Statement.{statement}
 use Rattle.aes.proofs.cmac_mode.xor_block.Tie as tie

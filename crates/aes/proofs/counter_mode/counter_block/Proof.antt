@@ -4,7 +4,7 @@ use mathlib.Core.List.{List}
 use lib.ListN.{drop}
 use Rattle.aes.specs.Octets.{number}
 use Rattle.aes.specs.Counter.{counter}
-use Rattle.aes.proofs.Lists.{itself}
+use Rattle.aes_block.proofs.Lists.{itself}
 use borrow.Author.Needs.{needs}
 use Rattle.aes.proofs.counter_mode.counter_block.Statement.{statement}
 use Rattle.aes.proofs.counter_mode.counter_block.Tie as tie

@@ -5,7 +5,7 @@ use mathlib.Core.List.{List, _++_}
 use Prim.Native.Nat.{ℕ}
 use lib.ListN.{take}
 use Rattle.aes.specs.Octets.{octets}
-use Rattle.aes.proofs.Lists.{itself}
+use Rattle.aes_block.proofs.Lists.{itself}
 use borrow.Author.Needs.{needs}
 use Rattle.aes.proofs.counter_mode.numbered.Statement.{statement}
 use Rattle.aes.proofs.counter_mode.numbered.Tie as tie

@@ -2,7 +2,7 @@ use mathlib.Core.Path.{ap}
 use mathlib.Core.List.{List, _++_}
 use Prim.Native.Nat.{ℕ}
 use lib.ListN.{replicate}
-use Rattle.aes.proofs.Lists.{itself}
+use Rattle.aes_block.proofs.Lists.{itself}
 use Rattle.aes.specs.Keys.{nea2By}
 use borrow.Author.Needs.{needs}
 use Rattle.aes.proofs.nas.nea2.Statement.{statement}

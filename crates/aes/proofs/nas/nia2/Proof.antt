@@ -1,7 +1,7 @@
 use mathlib.Core.Path.{ap, _∙_}
 use lib.ListN.{take}
 use Rattle.aes.specs.Keys.{nia2By}
-use Rattle.aes.proofs.Lists.{itself}
+use Rattle.aes_block.proofs.Lists.{itself}
 use borrow.Author.Needs.{needs}
 use Rattle.aes.proofs.nas.nia2.Statement.{statement}
 use Rattle.aes.proofs.nas.nia2.Tie as tie

@@ -1,0 +1,36 @@
+-- Counter blocks one after the other: all but the last octet stay unless that begins anew.
+-- Assumes nothing.
+use mathlib.Core.Path.{_≡_, refl, ap, ap₂, sym, _∙_}
+use mathlib.Core.List.{List, [], _∷_, _++_}
+use Prim.Native.Nat.{ℕ, zero, suc, _+_, _-_, _/_, _%_, _^_, _<_}
+use native.Mathlib.Omega.{arith}
+use native.Mathlib.Nat.{div-one, div-div-eq-div-mul, pow-succ'}
+use lib.ListN.{length, take, drop, getD, length-take}
+use lib.Seq.{getD-append-add}
+use Rattle.aes.specs.Octets.{octets, number}
+use Rattle.aes.specs.Counter.{counter}
+
+take-behind : (p q : List ℕ) (m n : ℕ) → m ≡ length p + n → take m (p ++ q) ≡ p ++ take n q
+take-behind [] q m n e = let z : m ≡ n = omega arith in ap (λ (k : ℕ). take k q) z
+take-behind (x ∷ p) q zero n e = absurd (omega arith)
+take-behind (x ∷ p) q (suc m) n e = ap (λ (l : List ℕ). x ∷ l) (take-behind p q m n (omega arith))
+
+-- all octets of a number but the last are those of it without its low 8 bits
+but-last : (n x : ℕ) → take n (octets (suc n) x) ≡ octets n (x / 256)
+but-last zero x = refl
+but-last (suc n) x =
+    let e : x / 256 ^ suc n ≡ x / 256 / 256 ^ n = ap (λ (d : ℕ). x / d) (pow-succ' 256 n) ∙ sym (div-div-eq-div-mul x 256 (256 ^ n)) in
+    ap₂ (λ (y : ℕ) (l : List ℕ). y % 256 ∷ l) e (but-last n x)
+
+-- a counter block begins as the one before it unless its last octet is 0
+pub same-start : (t : List ℕ) (n : ℕ) → length t ≡ 16 → 0 < n → 0 < getD (counter t n) 15 0 → take 15 (counter t (n - 1)) ≡ take 15 (counter t n)
+unfolding counter
+same-start t n h p q =
+    let l : length (take 8 t) ≡ 8 = simp length-take (omega arith) in
+    let x = (number (drop 8 t) + n) % 2 ^ 64 in
+    let y = (number (drop 8 t) + (n - 1)) % 2 ^ 64 in
+    let e : getD (take 8 t ++ octets 8 x) 15 0 ≡ x % 256 = rw l at (getD-append-add (take 8 t) (octets 8 x) 7 0) ∙ ap (λ (z : ℕ). z % 256) (div-one x) in
+    let d : y / 256 ≡ x / 256 = omega (arith, e, p, q) in
+    take-behind (take 8 t) (octets 8 y) 15 7 (omega arith) ∙
+    ap (λ (r : List ℕ). take 8 t ++ r) (but-last 7 y ∙ ap (octets 7) d ∙ sym (but-last 7 x)) ∙
+    sym (take-behind (take 8 t) (octets 8 x) 15 7 (omega arith))

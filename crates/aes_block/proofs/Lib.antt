@@ -1,0 +1,9 @@
+pub mod Tables
+pub mod Lists
+pub mod Field
+pub mod Xor
+pub mod Keys
+pub mod Lengths
+pub mod Rounds
+pub mod Mix
+pub mod Sharing

@@ -1,0 +1,4 @@
+pub mod Octets
+pub mod Field
+pub mod Cipher
+pub mod Mix

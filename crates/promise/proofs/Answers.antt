@@ -9,8 +9,8 @@ use lib.ListN.{length}
 use Rattle.count.specs.declared.Opening.{Opening}
 use Rattle.count.specs.declared.Opening.the-variants.{Late, Forward, None, Wrong}
 use Rattle.count.specs.Facts.{Takes}
-use Rattle.nas_core.specs.Leaves.{leaves, over, receivedAs, Values}
-use Rattle.promise.specs.Outcomes.{Outcome, outcome, TakenAs}
+use Rattle.nas_core.specs.Leaves.{leaves, over, receivedAs, Values, refusal}
+use Rattle.promise.specs.Outcomes.{Outcome, outcome, Uses, TakenAs}
 use Rattle.promise.proofs.Acts.{Holding}
 
 -- Answers to a received message: a refusal uses no COUNT; the others use theirs, and are a success or 8.
@@ -47,3 +47,13 @@ module _ {X A : Type 0} (H : Holding X) (v : A → Values) (no : ℕ → A) (yes
 
   pub takes-taken : (c : ℕ) (inner : List ℕ) → plain-of c ≡ inner → (o : Opening) → Takes o c ↔ TakenAs (left o) c inner out
   takes-taken c inner q o = (took c inner q o, λ t. names o c (t .uses) (t .count))
+
+  -- where no COUNT is used: 6 or 7 and nothing else, and context and output are as before
+  abbrev pub alone : ℕ → Outcome X
+  alone n = record { values = refusal n; context = x; output = out }
+
+  pub refused-alone : ((n : ℕ) → v (no n) ≡ refusal n) → (o : Opening) → ((c : ℕ) → Uses (left o) c → ⊥) → (left o ≡ alone 6) ⊎ (left o ≡ alone 7)
+  refused-alone only None n = inl (λ i. record { values = only 6 i; context = x; output = out })
+  refused-alone only Wrong n = inr (λ i. record { values = only 7 i; context = x; output = out })
+  refused-alone only (Late c) n = absurd (n c (a .uses c, a .count c))
+  refused-alone only (Forward c) n = absurd (n c (a .uses c, a .count c))

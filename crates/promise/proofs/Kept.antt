@@ -54,7 +54,7 @@ since-cons P Q a run = (apart, λ h. together (h .0) (h .1))
 since-none : (P Q : List Act → Type 0) → (Q [] → ⊥) → Since P Q [] → ⊥
 since-none P Q none (now q p) = none q
 
-not-so : (b : Bool) → (b ≡ true → ⊥) → b ≡ false
+pub not-so : (b : Bool) → (b ≡ true → ⊥) → b ≡ false
 not-so true n = absurd (n refl)
 not-so false n = refl
 

@@ -44,7 +44,7 @@ not-empty-eps [] e = let z : _≡_ {A = ℕ} 0 1 = cc in absurd (omega arith)
 not-empty-eps (a ∷ m) e = omega arith
 
 -- an initial message has six octets at least, and so has what goes out
-some-octets : (w : List ℕ) → mandatoryLength w ≤ length w → 1 ≤ outerLength w
+pub some-octets : (w : List ℕ) → mandatoryLength w ≤ length w → 1 ≤ outerLength w
 unfolding mandatoryLength
 some-octets w h = omega (arith, laws .out w w .no-shorter)
 

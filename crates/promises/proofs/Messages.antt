@@ -212,6 +212,23 @@ module _ (x : Context) (g : Guarded x) (c : ℕ) where
   acts-as : (o o′ : Opening) → o ≡ o′ → actOf (wraps (x .core)) o ≡ actOf false o′
   acts-as o o′ e = rw (g .good .guarded, e) refl
 
+  -- nothing but the COUNT refuses it
+  pub passes-5gs : (y : Core) (d : Direction) (k : Connection) (t : ℕ) (inner out out2 : List ℕ) → Ready x (fiveGs y d k t inner out out2) c
+      → let m = envelope y t c (bearerNo k) (directionNo d) inner in
+      openRefusal x m (roomFor (typeOf m) (directionNo d) (length out) (length out2)) ≡ 0
+  passes-5gs y d k t inner out out2 r =
+      let b = bearerNo k in
+      let e = directionNo d in
+      let m = envelope y t c b e inner in
+      let type = envelope-type y t c b e inner (r .type .0) (r .type .1) in
+      open-passes x (fault-none x g) m (length inner) (roomFor (typeOf m) e (length out) (length out2)) (r .low)
+      (has-room (typeOf m) e (length inner) (length out) (length out2) (r .room) (λ h. r .room2 (sym type ∙ h))) t (envelope-long y t c b e inner) (r .some)
+      (envelope-first y t c b e inner) type (r .type .0) (r .type .1)
+
+  pub passes-eps : (y : Core) (inner out : List ℕ) → Ready x (eps y inner out) c → openEpsRefusal x (epsMessage y c inner) (length out) ≡ 0
+  passes-eps y inner out r =
+      eps-passes x (fault-none x g) (epsMessage y c inner) (length inner) (length out) (r .low) (r .room) (eps-sealed y c inner .long) (eps-first y c inner)
+
   goes-5gs : (y : Core) (d : Direction) (k : Connection) (t : ℕ) (inner out out2 : List ℕ)
       → Ready x (fiveGs y d k t inner out out2) c → ByRule messages x (fiveGs y d k t inner out out2) c
   goes-5gs y d k t inner out out2 r =
@@ -224,11 +241,8 @@ module _ (x : Context) (g : Guarded x) (c : ℕ) where
       let q : m ≡ envelope (x .core) t c b e inner = envelope-same (x .core) y c b e (r .same) t inner in
       let s : Sealed (x .core) c b e 2 m (payload (x .core) (ciphers t) c b e inner) =
       subst (λ (m : List ℕ). Sealed (x .core) c b e 2 m (payload (x .core) (ciphers t) c b e inner)) (sym q) (envelope-sealed (x .core) c inner b e t) in
-      let type = envelope-type y t c b e inner from to in
       let room = roomFor (typeOf m) e (length out) (length out2) in
-      let pass = open-passes x (fault-none x g) m (length inner) room (r .low)
-      (has-room (typeOf m) e (length inner) (length out) (length out2) (r .room) (λ h. r .room2 (sym type ∙ h))) t (envelope-long y t c b e inner) (r .some)
-      (envelope-first y t c b e inner) type from to in
+      let pass = passes-5gs y d k t inner out out2 r in
       let a = open-answering x p b e m out in
       let f = found-is y (r .same) p b e 2 m _ s in
       let plain-is : payload (x .core) (ciphers (typeOf m)) c b e (drop 7 m) ≡ inner =
@@ -249,7 +263,7 @@ module _ (x : Context) (g : Guarded x) (c : ℕ) where
       let q : m ≡ epsMessage (x .core) c inner = eps-same (x .core) y c (r .same) inner in
       let s : Sealed (x .core) c epsBearer epsDirection 1 m inner =
       subst (λ (m : List ℕ). Sealed (x .core) c epsBearer epsDirection 1 m inner) (sym q) (eps-sealed (x .core) c inner) in
-      let pass = eps-passes x (fault-none x g) m (length inner) (length out) (r .low) (r .room) (s .long) (eps-first y c inner) in
+      let pass = passes-eps y inner out r in
       let a = eps-answering x m out in
       let f = found-is y (r .same) epsPlace epsBearer epsDirection 1 m _ s in
       record {

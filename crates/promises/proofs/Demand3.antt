@@ -5,7 +5,7 @@ use mathlib.Core.Bool.{Bool, true, false, cond}
 use mathlib.Core.Logic.{_⊎_, inl, inr, _↔_}
 use mathlib.Core.List.{List, [], _∷_, _++_}
 use native.Mathlib.Omega.{arith}
-use lib.ListN.{replicate}
+use lib.ListN.{getD, replicate}
 use lib.Dec.{eqb}
 use borrow.Author.Tests.{eqb-true, ne-eqb}
 use Rattle.aes.specs.Keys.{keyOf}
@@ -23,9 +23,9 @@ use Rattle.nas_5gs.specs.declared.Direction.the-variants.{Uplink, Downlink}
 use Rattle.nas_5gs.specs.declared.Connection.{Connection}
 use Rattle.nas_5gs.specs.declared.Connection.the-variants.{ThreeGpp, Non3Gpp}
 use Rattle.nas_5gs.specs.declared.ChangeAnswer.the-variants.{Refused, Done}
-use Rattle.nas_5gs.specs.Places.{directionNo, bearerNo, placeOf, four, recordAt, nextAt, faultOf}
+use Rattle.nas_5gs.specs.Places.{directionNo, bearerNo, placeOf, four, anyOver, recordAt, nextAt, faultOf}
 use Rattle.nas_5gs.specs.Leaves.{leaves}
-use Rattle.nas_5gs.specs.Changes.{coreWith, contextWith, refusedContext, newOf, closed, keptFor, reselectOf}
+use Rattle.nas_5gs.specs.Changes.{coreWith, contextWith, refusedContext, newOf, restoreOf, closed, keptFor, reselectOf}
 use Rattle.nas_5gs.specs.Envelope.{envelope}
 use Rattle.nas_5gs.specs.Eps.{epsPlace, epsMessage}
 use Rattle.promise.specs.Kept.{Begins as BeginsAt}
@@ -34,11 +34,11 @@ use Rattle.promise.proofs.Kept.{kept}
 use Rattle.promise.proofs.Messages.{opens}
 use Rattle.promises.specs.Calls.{Call, setWindow, reselect, seal5gs, sealOpaque, sealInitial, open5gs, sealEps, openEps, makeN1ToS1, verifyN1ToS1, makeS1ToN1, verifyS1ToN1, Outcome, gives, placeIn, usedBy, contextAfter, countsUsed}
 use Rattle.promises.specs.Words.{SameKeys, recordOf, Ahead, Succeeds, Uses, TakenAs}
-use Rattle.promises.specs.Demand3.{Fresh, Reselected, Begins, fresh, reselected, PassedOver, NeverToNull, NeverReselected, InsideSince, StillOpen, Due, Opens, Demand3, Keeps}
+use Rattle.promises.specs.Demand3.{Fresh, Restored, Reselected, Begins, fresh, restored, reselected, PassedOver, NeverToNull, NeverReselected, InsideSince, StillOpen, Due, Opens, Demand3, Keeps}
 use Rattle.promises.proofs.Shapes.{Reselects, acts}
 use Rattle.promises.proofs.Passing.{alone, gives-passed, gives-refused}
 use Rattle.promises.proofs.Soundness.{Good, trans-keys}
-use Rattle.promises.proofs.Faults.{Faultless, by-place, faultless}
+use Rattle.promises.proofs.Faults.{Faultless, by-place, none-over, faultless}
 use Rattle.promises.proofs.Opening.{envelope-same, eps-same}
 use Rattle.promises.proofs.Messages.{givesGuarded, guardedMachine, words, Guarded, keeping, fiveGs, eps, messages, goes}
 
@@ -237,6 +237,28 @@ started x f =
     let built = off 13 (unbuilt (f .integrity) (f .ciphering)) (omega arith) (passed l (a .0) 0) in
     subst Started (a .1) (fresh-started (f .integrity) (f .ciphering) (f .integrityKey) (f .cipheringKey) (f .guarded) built)
 
+-- a restored context
+restored-begins : (x : Context) → Restored x → Beginning x
+unfolding restoreOf wraps
+restored-begins x r =
+    let f : ℕ → ℕ = λ p. getD (r .next) p 0 in
+    let l : List ℕ = 13 when unbuilt (r .integrity) (r .ciphering) ∷ 16 when anyOver (four f) ∷ [] in
+    let made = contextWith (r .integrity) (r .ciphering) (r .integrityKey) (r .cipheringKey) (r .next) in
+    let a = accepted (first l) made refusedContext x (r .made) in
+    let q = passed l (a .0) in
+    let n = none-over (f 0) (f 1) (f 2) (f 3) (off 16 (anyOver (four f)) (omega arith) (q 1)) in
+    subst Beginning (a .1)
+    record {
+      good = record { four = refl; guarded = ne-eqb (r .integrity) 0 (r .guarded) };
+      ok =
+          record {
+            built = off 13 (unbuilt (r .integrity) (r .ciphering)) (omega arith) (q 0);
+            small = omega arith;
+            counts = by-place (nextAt made) (n .0) (n .1) (n .2) (n .3);
+          };
+      shut = λ p h. starts .restored _;
+    }
+
 -- a reselection away from null
 shut-all : (s : ℕ) (f : ℕ → Record) → (x : Context) → x .records ≡ four (λ p. closeOf s (f p)) → x .core .size ≡ s → (p : ℕ) → p < 4 → Shut (recordOf p x)
 shut-all s f x e q p h = subst Shut (sym (at-p p h)) (starts .closing (record { size = s; at = f p }))
@@ -277,6 +299,7 @@ reselected-begins x r =
 
 beginning : (x : Context) → Begins x → Beginning x
 beginning x (fresh f) = started x f .beginning
+beginning x (restored r) = restored-begins x r
 beginning x (reselected r) = reselected-begins x r
 
 pub keeps : Keeps gives

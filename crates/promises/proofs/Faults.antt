@@ -45,7 +45,7 @@ by-place f a b c d (suc (suc zero)) h = c
 by-place f a b c d (suc (suc (suc zero))) h = d
 by-place f a b c d (suc (suc (suc (suc p)))) h = absurd (omega arith)
 
-none-over : (a b c d : ℕ) → anyOver (a ∷ b ∷ c ∷ d ∷ []) ≡ false → (a ≤ exhausted) × (b ≤ exhausted) × (c ≤ exhausted) × (d ≤ exhausted)
+pub none-over : (a b c d : ℕ) → anyOver (a ∷ b ∷ c ∷ d ∷ []) ≡ false → (a ≤ exhausted) × (b ≤ exhausted) × (c ≤ exhausted) × (d ≤ exhausted)
 none-over a b c d e =
     let t1 = or-false (ltb exhausted a) _ e in
     let t2 = or-false (ltb exhausted b) _ (t1 .1) in

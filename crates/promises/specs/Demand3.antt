@@ -2,7 +2,7 @@
 -- twice. A non-empty message sealed for COUNT c on that record with the same keys and codes, given to the matching open call within limit and room,
 -- uses c and hands over its octets exactly when c is among the 256 COUNTs from the next one on, or was passed over, never used, and has lain inside the
 -- window ever since. One exception: a forward c whose code also fits a still open late COUNT with the same last octet is taken as that one."
--- Request 4: "Demand 3 then also holds across reselections between non-null codes, and anew from each reselection away from null." So it is said of any calls
+-- Request 10: it begins at a restored context too. Request 4: "Demand 3 then also holds across reselections between non-null codes, and anew from each reselection away from null." So it is said of any calls
 -- but restore and reselection to null, and "the same keys and codes" are those that the context has when the message comes.
 use Prim.Native.Nat.{ℕ, _+_, _%_, _≤_, _<_}
 use mathlib.Core.Path.{_≡_}
@@ -23,7 +23,7 @@ use Rattle.nas_5gs.specs.declared.Connection.{Connection}
 use Rattle.nas_5gs.specs.declared.ChangeAnswer.the-variants.{Done}
 use Rattle.nas_5gs.specs.Places.{directionNo, bearerNo, placeOf, nextAt}
 use Rattle.nas_5gs.specs.Leaves.{leaves}
-use Rattle.nas_5gs.specs.Changes.{newOf, reselectOf}
+use Rattle.nas_5gs.specs.Changes.{newOf, restoreOf, reselectOf}
 use Rattle.nas_5gs.specs.Envelope.{envelope}
 use Rattle.nas_5gs.specs.Eps.{epsPlace, epsBearer, epsDirection, epsMessage}
 use Rattle.promises.specs.Words.{SameKeys, recordOf, Ahead, Succeeds, TakenAs}
@@ -49,9 +49,21 @@ pub record Reselected (x : Context) : Type 0 where
   pub made : reselectOf before integrity ciphering integrityKey cipheringKey ≡ leaves Done x []
   pub guarded : integrity ≡ 0 → ⊥
 
+-- "Restore records begin demand 3 afresh from the restored COUNTs": a restore that is accepted, with a code other than 0. What was used before it is not in
+-- what is said, and may be used again
+pub record Restored (x : Context) : Type 0 where
+  pub integrity : ℕ
+  pub ciphering : ℕ
+  pub integrityKey : List ℕ
+  pub cipheringKey : List ℕ
+  pub next : List ℕ
+  pub made : restoreOf integrity ciphering integrityKey cipheringKey next ≡ leaves Done x []
+  pub guarded : integrity ≡ 0 → ⊥
+
 -- where the demand begins
 pub data Begins (x : Context) : Type 0 where
   fresh : Fresh x → Begins x
+  restored : Restored x → Begins x
   reselected : Reselected x → Begins x
 
 -- a call that took x to y passed c over: c was not below the next COUNT, and now lies below the highest one used

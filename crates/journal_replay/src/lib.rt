@@ -1,0 +1,1 @@
+// No code: what a journal replays as, stated in specs/ and proved in proofs/.

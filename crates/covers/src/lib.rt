@@ -4,13 +4,17 @@ ghost use mathlib.Core.Path.{_≡_};
 ghost use mathlib.Core.List.{[]};
 ghost use Rattle.nas_5gs.specs.Leaves.{leaves, changeValues, useValues, openValues, epsOpenValues, octetValues, verifyValues};
 ghost use Rattle.promises.specs.Calls.{setWindow, seal5gs, sealOpaque, sealInitial, open5gs, sealEps, openEps, makeN1ToS1, verifyN1ToS1, makeS1ToN1, verifyS1ToN1, reselect, create, restore, nextCount, window, integrity, ciphering, outcome, gives, second, makes, reads};
+ghost use Rattle.mixture.specs.Mixture.{windowIn, sealIn, openIn, changes, changesSecond};
+use nas_5gs::ChangeAnswer;
 use nas_5gs::ChangeDone;
 use nas_5gs::Connection;
 use nas_5gs::Context;
 use nas_5gs::Direction;
 use nas_5gs::EpsOpenDone;
 use nas_5gs::OctetDone;
+use nas_5gs::OpenAnswer;
 use nas_5gs::OpenDone;
+use nas_5gs::UseAnswer;
 use nas_5gs::UseDone;
 use nas_5gs::VerifyDone;
 
@@ -164,4 +168,36 @@ pub fn read_ciphering(context: Context) -> u8
     ensures { λ r. ⌜ r ≡ reads ciphering context ⌝ }
 {
     context.ciphering()
+}
+
+pub fn set_window_in_place(context: &mut Context, size: u8) -> ChangeAnswer
+    ensures { λ r. ⌜ outcome changeValues (leaves r (now (context .exit)) []) ≡ changes (windowIn size) (now (context .entry)) ⌝ }
+{
+    nas_host::set_window(context, size)
+}
+
+pub fn seal_in_place(
+    context: &mut Context,
+    header_type: u8,
+    direction: Direction,
+    connection: Connection,
+    inner: &[u8],
+    out: &mut [u8],
+) -> UseAnswer
+    ensures { λ r. ⌜ outcome useValues (leaves r (now (context .exit)) (now (out .exit))) ≡ changes (sealIn «header_type» direction connection (now (inner .entry)) (now (out .entry))) (now (context .entry)) ⌝ }
+{
+    nas_host::seal(context, header_type, direction, connection, inner, out)
+}
+
+pub fn open_in_place(
+    context: &mut Context,
+    direction: Direction,
+    connection: Connection,
+    message: &[u8],
+    out: &mut [u8],
+    out2: &mut [u8],
+) -> OpenAnswer
+    ensures { λ r. ⌜ (outcome openValues (leaves r (now (context .exit)) (now (out .exit))) ≡ changes (openIn direction connection (now (message .entry)) (now (out .entry)) (now (out2 .entry))) (now (context .entry))) × (now (out2 .exit) ≡ changesSecond (openIn direction connection (now (message .entry)) (now (out .entry)) (now (out2 .entry))) (now (context .entry))) ⌝ }
+{
+    nas_host::open(context, direction, connection, message, out, out2)
 }

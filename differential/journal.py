@@ -246,7 +246,7 @@ def compared(seed, number):
     for k in range(number):
         lines = list(session(pick.randrange(1 << 30), pick.choice((5, 20, 60))))
         journal, *counts = written(lines)
-        assert program("journal_write", "\n".join(lines).encode("latin-1")) == (journal, errors(*counts)), k
+        assert program("journal_write", "".join(line + "\n" for line in lines).encode("latin-1")) == (journal, errors(*counts)), k
         for octets in (journal, damaged(journal, pick)):
             assert program("journal_read", octets) == (told(read(octets)), ""), k
     print(f"no difference in {number} sessions, each written, read and read damaged")

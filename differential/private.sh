@@ -6,8 +6,8 @@ root=$(cd "$(dirname "$0")/.." && pwd)
 work=$(mktemp -d)
 trap 'rm -rf "$work"' EXIT
 mkdir -p "$work/crates/outside/src" "$work/target"
-cp -r "$root/crates/aes" "$work/crates/"
-printf 'aes:\noutside: aes\n' >"$work/crates.txt"
+cp -r "$root/crates/aes_block" "$root/crates/aes" "$work/crates/"
+printf 'aes_block:\naes: aes_block\noutside: aes\n' >"$work/crates.txt"
 for part in rlib stamp; do [ ! -d "$root/target/$part" ] || cp -r "$root/target/$part" "$work/target/"; done
 status=0
 try() { # WHAT FUNCTION

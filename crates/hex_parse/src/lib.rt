@@ -4,7 +4,7 @@ ghost use lib.ListN.{length};
 ghost use Rattle.hex_lines.specs.Line.{written};
 ghost use Rattle.hex_parse.specs.Lines.{counted, isNone, withOctets, lineOf, octetsIn};
 
-mod form;
+pub mod form;
 mod heads;
 
 use hex_lines::Decoded;
@@ -96,7 +96,7 @@ fn counted(line: Line, decoded: Decoded) -> Line
 }
 
 // Whether a text is `-`.
-fn is_none(text: &[u8]) -> bool
+pub fn is_none(text: &[u8]) -> bool
     ensures { λ r. ⌜ r ≡ isNone (now (text .entry)) ⌝ }
 {
     if text.len() != 1 {

@@ -10,8 +10,9 @@ use crate::words;
 use aes::Key;
 use count::Record;
 use nas_5gs::Context;
+use nas_core::Core;
 
-fn record(rec: Record, out: &mut [u8], at: usize) -> usize
+pub fn record(rec: Record, out: &mut [u8], at: usize) -> usize
     requires { ⌜ at + 34 ≤ length (now out) ⌝ }
     ensures { λ r. ⌜ Puts (now (out .entry)) at (recordText rec) (now (out .exit)) r × (r ≤ at + 34) ⌝ }
 {
@@ -28,11 +29,10 @@ fn key(key: Key, out: &mut [u8], at: usize) -> usize
 }
 
 // The codes, keys and size.
-fn core(context: Context, out: &mut [u8], at: usize) -> usize
+pub fn core(core: Core, out: &mut [u8], at: usize) -> usize
     requires { ⌜ at + 256 ≤ length (now out) ⌝ }
-    ensures { λ r. ⌜ Puts (now (out .entry)) at (coreText (context .core)) (now (out .exit)) r × (r ≤ at + 104) ⌝ }
+    ensures { λ r. ⌜ Puts (now (out .entry)) at (coreText core) (now (out .exit)) r × (r ≤ at + 104) ⌝ }
 {
-    let core = context.core;
     let integrity_key = core.integrity_key;
     let ciphering_key = core.ciphering_key;
     let first = code(core.integrity, out, at);
@@ -53,7 +53,7 @@ pub fn shown(context: Context, out: &mut [u8], at: usize) -> usize
     requires { ⌜ at + 1024 ≤ length (now out) ⌝ }
     ensures { λ r. ⌜ Puts (now (out .entry)) at (shownText context) (now (out .exit)) r × (r ≤ at + 240) ⌝ }
 {
-    let next = core(context, out, at);
+    let next = core(context.core, out, at);
     let a = record(context.records[0], out, next);
     let b = record(context.records[1], out, a);
     let c = record(context.records[2], out, b);

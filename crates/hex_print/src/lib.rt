@@ -7,8 +7,8 @@ ghost use lib.ListN.{length, take, drop};
 ghost use Rattle.hex_print.specs.Words.{Puts, word, decimalWord, octetsWord, ok, no};
 ghost use Rattle.hex_print.specs.Lines.{wroteOf, secondOf, usedText, receivedText, contentText, answerText, secondText, isKept, tailText, contextText, endText, lineText};
 
-mod context;
-mod words;
+pub mod context;
+pub mod words;
 
 use hex_perform::Answer;
 use nas_5gs::Context;
@@ -118,7 +118,7 @@ fn received(count: u32, distance: u32, wrote: usize, out: &mut [u8], at: usize) 
     words::word(wrote as u64, 2, out, far)
 }
 
-fn accepted(count: u32, distance: u32, wrote: usize, out: &mut [u8], at: usize) -> usize
+pub fn accepted(count: u32, distance: u32, wrote: usize, out: &mut [u8], at: usize) -> usize
     requires { ⌜ at + 128 ≤ length (now out) ⌝ }
     ensures { λ r. ⌜ Puts (now (out .entry)) at (ok ++ receivedText count distance wrote) (now (out .exit)) r × (r ≤ at + 53) ⌝ }
 {
@@ -126,7 +126,7 @@ fn accepted(count: u32, distance: u32, wrote: usize, out: &mut [u8], at: usize) 
     received(count, distance, wrote, out, next)
 }
 
-fn refusal(number: u8, out: &mut [u8], at: usize) -> usize
+pub fn refusal(number: u8, out: &mut [u8], at: usize) -> usize
     requires { ⌜ at + 64 ≤ length (now out) ⌝ }
     ensures { λ r. ⌜ Puts (now (out .entry)) at (no ++ decimalWord number) (now (out .exit)) r × (r ≤ at + 6) ⌝ }
 {
@@ -144,7 +144,7 @@ fn content(count: u32, distance: u32, wrote: usize, out: &mut [u8], at: usize) -
 
 // The answers that use a COUNT, each with the octets behind its numbers.
 
-fn put_used(count: u32, wrote: usize, written: &[u8], out: &mut [u8], at: usize) -> usize
+pub fn put_used(count: u32, wrote: usize, written: &[u8], out: &mut [u8], at: usize) -> usize
     requires { ⌜ at + 1024 + length (now written) * 2 ≤ length (now out) ⌝ }
     ensures { λ r. ⌜ Puts (now (out .entry)) at (ok ++ usedText count wrote ++ octetsWord (now (written .entry))) (now (out .exit)) r × (r ≤ at + 250 + length (now (written .entry)) * 2) ⌝ }
 {
@@ -176,7 +176,7 @@ fn put_received(
     words::octets(written, out, next)
 }
 
-fn put_opened(
+pub fn put_opened(
     count: u32,
     distance: u32,
     wrote: usize,

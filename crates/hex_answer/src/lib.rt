@@ -1,5 +1,8 @@
 // A call of a hex line performed on a context, and the line of its answer told, whole or in pieces.
+ghost use mathlib.Core.Path.{_≡_};
+ghost use mathlib.Core.Bool.{_&&_};
 ghost use Prim.Native.Nat.{_+_, _≤_};
+ghost use lib.Dec.{eqb};
 ghost use lib.ListN.{length};
 use aes::Key;
 use count::Record;
@@ -24,7 +27,7 @@ fn same_key(a: Key, b: Key) -> bool {
     check::same(&x, &y)
 }
 
-fn same_core(a: Core, b: Core) -> bool {
+pub fn same_core(a: Core, b: Core) -> bool {
     if a.integrity != b.integrity {
         return false;
     }
@@ -44,7 +47,9 @@ fn same_core(a: Core, b: Core) -> bool {
     same_key(z, w)
 }
 
-fn same_record(a: Record, b: Record) -> bool {
+pub fn same_record(a: Record, b: Record) -> bool
+    ensures { λ r. ⌜ r ≡ (eqb (a .next) (b .next) && eqb (a .bits) (b .bits)) ⌝ }
+{
     if a.next != b.next {
         return false;
     }
@@ -120,7 +125,7 @@ pub fn flush(print: &[u8], at: usize) {
 }
 
 // So many octets are printed at once, and so many characters are the most that a line with them has.
-const PIECE: usize = 16384;
+pub const PIECE: usize = 16384;
 
 const LONGEST: usize = 34000;
 
@@ -155,13 +160,16 @@ fn performed(
 
 fn piece_told(octets: &[u8], print: &mut [u8; 65536], at: usize) -> usize
     requires { ⌜ length (now octets) ≤ 16384 ⌝ }
+    ensures { λ r. ⌜ r ≤ 65536 ⌝ }
 {
     let from = room(print, at);
     hex_lines::put_octets(octets, print, from)
 }
 
 // The octets behind those that a line begins with.
-fn rest_told(octets: &[u8], print: &mut [u8; 65536], at: usize) -> usize {
+pub fn rest_told(octets: &[u8], print: &mut [u8; 65536], at: usize) -> usize
+    ensures { λ r. ⌜ r ≤ 65536 ⌝ }
+{
     let mut end = at;
     let mut done = 0;
     while PIECE < octets.len() - done {
@@ -182,6 +190,7 @@ fn answer_told(
     at: usize,
 ) -> usize
     requires { ⌜ n ≤ length (now lent) ⌝ }
+    ensures { λ r. ⌜ r ≤ 65536 ⌝ }
 {
     let from = room(print, at);
     let first = least(n, PIECE);
@@ -192,6 +201,7 @@ fn answer_told(
 // The m octets that it wrote in the second output.
 fn second_told(answer: Answer, second: &[u8], m: usize, print: &mut [u8; 65536], at: usize) -> usize
     requires { ⌜ m ≤ length (now second) ⌝ }
+    ensures { λ r. ⌜ r ≤ 65536 ⌝ }
 {
     let from = room(print, at);
     let first = least(m, PIECE);
@@ -207,7 +217,9 @@ fn told(
     is_changed: bool,
     print: &mut [u8; 65536],
     at: usize,
-) -> usize {
+) -> usize
+    ensures { λ r. ⌜ r ≤ 65536 ⌝ }
+{
     let answer = done.answer;
     let wrote = least(hex_print::wrote(answer), lent.len());
     let beside = least(hex_print::second(answer), second.len());
@@ -229,6 +241,7 @@ fn printed(
     at: usize,
 ) -> usize
     requires { ⌜ (n ≤ length (now lent)) × (m ≤ length (now second)) ⌝ }
+    ensures { λ r. ⌜ r ≤ 65536 ⌝ }
 {
     if PIECE / 2 < greatest(n, m) {
         return told(done, &lent[..n], &second[..m], is_changed, print, at);
@@ -256,7 +269,9 @@ pub fn replied(
     second: &mut [u8],
     print: &mut [u8; 65536],
     at: usize,
-) -> Reply {
+) -> Reply
+    ensures { λ r. ⌜ r .at ≤ 65536 ⌝ }
+{
     let n = least(line.room, lent.len());
     let m = least(line.second, second.len());
     let held = hex_lines::front(octets, line.octets);

@@ -95,7 +95,7 @@ pub fn put_line(
     at: usize,
 ) -> usize
     requires { ⌜ at + 1200 + length (now lent) * 2 ≤ length (now out) ⌝ }
-    ensures { λ r. ⌜ Puts (now (out .entry)) at (lineText answer context (now (lent .entry)) «is_changed») (now (out .exit)) r ⌝ }
+    ensures { λ r. ⌜ Puts (now (out .entry)) at (lineText answer context (now (lent .entry)) «is_changed») (now (out .exit)) r × (r ≤ at + 1200 + length (now (lent .entry)) * 2) ⌝ }
 {
     let n = wrote(answer);
     let told = answer_text(answer, context, hex_lines::front(lent, n), out, at);

@@ -368,7 +368,7 @@ fn context_mark(is_changed: bool, out: &mut [u8], at: usize) -> usize
 // What stands behind the octets of a line: what is left of the two outputs, and whether a refusal changed the context.
 pub fn put_end(rest: &[u8], second: &[u8], is_changed: bool, out: &mut [u8], at: usize) -> usize
     requires { ⌜ at + 16 ≤ length (now out) ⌝ }
-    ensures { λ r. ⌜ Puts (now (out .entry)) at (endText (now (rest .entry)) (now (second .entry)) «is_changed») (now (out .exit)) r ⌝ }
+    ensures { λ r. ⌜ Puts (now (out .entry)) at (endText (now (rest .entry)) (now (second .entry)) «is_changed») (now (out .exit)) r × (r ≤ at + 16) ⌝ }
 {
     let tailed = tail(rest, second, out, at);
     let marked = context_mark(is_changed, out, tailed);
@@ -386,7 +386,7 @@ pub fn put_line(
     at: usize,
 ) -> usize
     requires { ⌜ at + 1200 + length (now lent) * 2 + length (now beside) * 2 ≤ length (now out) ⌝ }
-    ensures { λ r. ⌜ Puts (now (out .entry)) at (lineText answer context (now (lent .entry)) (now (beside .entry)) «is_changed») (now (out .exit)) r ⌝ }
+    ensures { λ r. ⌜ Puts (now (out .entry)) at (lineText answer context (now (lent .entry)) (now (beside .entry)) «is_changed») (now (out .exit)) r × (r ≤ at + 1200 + length (now (lent .entry)) * 2 + length (now (beside .entry)) * 2) ⌝ }
 {
     let n = wrote(answer);
     let m = second(answer);

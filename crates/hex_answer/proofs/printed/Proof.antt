@@ -19,9 +19,12 @@ slice-aggregate-put-line-2 c = simp length-take (omega arith)
 put-line-requires : tie.Need-put-line-requires
 put-line-requires c κs = simp length-take (omega arith)
 
+returns-2 : tie.Need-returns-2
+returns-2 c = omega (arith, simp length-take at (c .put-line .ensures .1))
+
 pub printed-spec : {M : Type 1} → statement M
 printed-spec =
     tie.close
     (tie.spec
     (λ c κs. search needs) slice-aggregate-told slice-aggregate-told-2 (λ c κs. search needs) (λ c. search needs)
-    (λ c κs. search needs) slice-aggregate-put-line slice-aggregate-put-line-2 put-line-requires (λ c. search needs))
+    (λ c κs. search needs) slice-aggregate-put-line slice-aggregate-put-line-2 put-line-requires returns-2)

@@ -1,3 +1,4 @@
+use native.Mathlib.Omega.{arith}
 use Rattle.hex_print.specs.Lines.{endText}
 use Rattle.hex_print.proofs.Laws as laws
 use borrow.Author.Needs.{needs}
@@ -6,7 +7,7 @@ use Rattle.hex_print.proofs.put_end.Tie as tie
 
 returns : tie.Need-returns
 unfolding endText
-returns c = laws.behind (laws.behind (c .before .before .before .before .before .before .before .before .before .before .before .tail .ensures .0) (c .before .before .before .before .before .before .before .context-mark .ensures .0)) (c .before .before .text .ensures .0)
+returns c = (laws.behind (laws.behind (c .before .before .before .before .before .before .before .before .before .before .before .tail .ensures .0) (c .before .before .before .before .before .before .before .context-mark .ensures .0)) (c .before .before .text .ensures .0), omega (arith, c .before .before .text .ensures .1, c .before .before .before .before .before .before .before .context-mark .ensures .1, c .before .before .before .before .before .before .before .before .before .before .before .tail .ensures .1))
 
 pub put-end-spec : {M : Type 1} → statement M
 put-end-spec =

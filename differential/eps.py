@@ -1,7 +1,7 @@
 #!/usr/bin/env python3
 """Request 6 read directly: the EPS context, over its hex lines (`enew` to `eshow`). Run as a program, it plays the
 request's session and random round trips, and says how many agree; with the word `checks`, it prints what crate checks_eps
-is to print.
+is to print; with the word `answers`, it answers the lines that it reads, the 5GS ones by model.py.
 
 The algorithms are model.py's, and so is the COUNT rule of a last octet, which request 6 takes over from document 01.
 The estimate by five bits, the octets and the refusals are written from the request and TS 24.301 alone.
@@ -141,6 +141,17 @@ class Session(model.Session):
             return f"no {refusal.number}"
 
 
+class Both:
+    """Lines of both contexts, each with slots of its own: no line has the form of both."""
+
+    def __init__(self):
+        self.first, self.eps = model.Session(), Session()
+
+    def line(self, line):
+        answer = self.first.line(line)
+        return self.eps.line(line) if answer == "bad" else answer
+
+
 KEYS = "000102030405060708090a0b0c0d0e0f 101112131415161718191a1b1c1d1e1f"
 
 # the request's session
@@ -234,6 +245,8 @@ def checks():
 def main():
     if sys.argv[1:] == ["checks"]:
         return checks()
+    if sys.argv[1:] == ["answers"]:
+        return model.answer(Both())
     chance = random.Random(6)
     for name, (number, wrong) in (("page", page()), ("round trips", round_trips(2000, chance))):
         print(f"{name}: {number - len(wrong)} of {number} agree")

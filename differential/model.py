@@ -429,8 +429,9 @@ def lines_of(stream):
         yield line[:-1] if line.endswith(b"\n") else line
 
 
-def main():
-    session, out = Session(), []
+def answer(session):
+    """Prints the answer to each line of the standard input."""
+    out = []
     for line in lines_of(sys.stdin.buffer):
         out.append(session.line(line.decode("latin-1")))
         if len(out) == 10000:
@@ -441,4 +442,4 @@ def main():
 
 
 if __name__ == "__main__":
-    main()
+    answer(Session())

@@ -36,4 +36,9 @@ pub answer-text-spec : {M : Type 1} → statement M
 answer-text-spec =
     tie.close
     (tie.spec
-    (λ c. search needs) (λ c. search needs) (λ c κs. search needs) (λ c. search needs) (λ c. search needs) (λ c κs. search needs) (λ c. search needs) (λ c κs. search needs) (λ c. search needs) (λ c κs. search needs) (λ c. search needs) (λ c κs. search needs) (λ c. search needs) (λ c κs. search needs) (λ c. search needs) (λ c κs. search needs) (λ c. search needs) returns (λ c. search needs) returns-2 (λ c. search needs) returns-3 (λ c. search needs) returns-4 (λ c. search needs) returns-5 (λ c. search needs) returns-6 (λ c. search needs) returns-7)
+    (λ c. search needs) (λ c. search needs) (λ c κs. search needs) (λ c. search needs) (λ c. search needs)
+    (λ c κs. search needs) (λ c. search needs) (λ c κs. search needs) (λ c. search needs) (λ c κs. search needs)
+    (λ c. search needs) (λ c κs. search needs) (λ c. search needs) (λ c κs. search needs) (λ c. search needs)
+    (λ c κs. search needs) (λ c. search needs) returns (λ c. search needs) returns-2 (λ c. search needs) returns-3
+    (λ c. search needs) returns-4 (λ c. search needs) returns-5 (λ c. search needs) returns-6 (λ c. search needs)
+    returns-7)

@@ -8,6 +8,7 @@ pub const EXHAUSTED: u32 = 16777216;
 
 // The next COUNT of one direction of one connection (EXHAUSTED: all are used), and the window bits: bit k is set when the COUNT k + 1 below the
 // highest used one, next - 1, is used.
+#[repr(C)]
 pub struct Record {
     pub next: u32,
     pub bits: u64,

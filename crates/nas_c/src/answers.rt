@@ -1,0 +1,139 @@
+// Answers as their values, with the context that is handed back.
+ghost use mathlib.Core.Path.{_≡_};
+ghost use Rattle.nas_5gs.specs.Leaves.{changeValues, useValues, openValues};
+ghost use Rattle.nas_c.specs.Numbers.{shown, noSuchWay};
+use crate::Left;
+use crate::Shown;
+use nas_5gs::ChangeAnswer;
+use nas_5gs::ChangeDone;
+use nas_5gs::Context;
+use nas_5gs::OpenAnswer;
+use nas_5gs::OpenDone;
+use nas_5gs::UseAnswer;
+use nas_5gs::UseDone;
+
+// A number alone; 0: a success that has no values.
+pub fn refusal(number: u8) -> Shown
+    ensures { λ r. ⌜ r ≡ record { number = number; carried = 0; «header_type» = 0; octet = 0; connection = 0; count = 0; distance = 0; wrote = 0; second = 0 } ⌝ }
+{
+    Shown {
+        number,
+        carried: 0,
+        header_type: 0,
+        octet: 0,
+        connection: 0,
+        count: 0,
+        distance: 0,
+        wrote: 0,
+        second: 0,
+    }
+}
+
+pub fn success(header_type: u8, count: u32, distance: u32, wrote: usize, second: usize) -> Shown
+    ensures { λ r. ⌜ r ≡ record { number = 0; carried = 0; «header_type» = «header_type»; octet = 0; connection = 0; count = count; distance = distance; wrote = wrote; second = second } ⌝ }
+{
+    Shown {
+        number: 0,
+        carried: 0,
+        header_type,
+        octet: 0,
+        connection: 0,
+        count,
+        distance,
+        wrote,
+        second,
+    }
+}
+
+// Refusal 8 and the number that it carries.
+fn content(carried: u8, header_type: u8, count: u32, distance: u32, wrote: usize) -> Shown
+    ensures { λ r. ⌜ r ≡ record { number = 8; carried = carried; «header_type» = «header_type»; octet = 0; connection = 0; count = count; distance = distance; wrote = wrote; second = 0 } ⌝ }
+{
+    Shown {
+        number: 8,
+        carried,
+        header_type,
+        octet: 0,
+        connection: 0,
+        count,
+        distance,
+        wrote,
+        second: 0,
+    }
+}
+
+pub fn no_such_way(context: Context) -> Left
+    ensures { λ r. ⌜ r ≡ record { answer = noSuchWay; context = context } ⌝ }
+{
+    Left {
+        answer: refusal(19),
+        context,
+    }
+}
+
+pub fn show_change(done: ChangeDone) -> Left
+    ensures { λ r. ⌜ r ≡ record { answer = shown (changeValues (done .answer)); context = done .context } ⌝ }
+{
+    let context = done.context;
+    let answer = done.answer;
+    match answer {
+        ChangeAnswer::Refused(n) => Left {
+            answer: refusal(n),
+            context,
+        },
+        ChangeAnswer::Done => Left {
+            answer: refusal(0),
+            context,
+        },
+    }
+}
+
+pub fn show_use(done: UseDone) -> Left
+    ensures { λ r. ⌜ r ≡ record { answer = shown (useValues (done .answer)); context = done .context } ⌝ }
+{
+    let context = done.context;
+    let answer = done.answer;
+    match answer {
+        UseAnswer::Refused(n) => Left {
+            answer: refusal(n),
+            context,
+        },
+        UseAnswer::Used { count, wrote } => Left {
+            answer: success(0, count, 0, wrote, 0),
+            context,
+        },
+    }
+}
+
+pub fn show_open(done: OpenDone) -> Left
+    ensures { λ r. ⌜ r ≡ record { answer = shown (openValues (done .answer)); context = done .context } ⌝ }
+{
+    let context = done.context;
+    let answer = done.answer;
+    match answer {
+        OpenAnswer::Refused(n) => Left {
+            answer: refusal(n),
+            context,
+        },
+        OpenAnswer::Accepted {
+            count,
+            distance,
+            wrote,
+            header_type,
+            second,
+        } => Left {
+            answer: success(header_type, count, distance, wrote, second),
+            context,
+        },
+        OpenAnswer::Content {
+            count,
+            distance,
+            wrote,
+            header_type,
+            number,
+        } => Left {
+            answer: content(number, header_type, count, distance, wrote),
+            context,
+        },
+    }
+}

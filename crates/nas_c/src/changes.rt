@@ -1,0 +1,52 @@
+// Calls that use no COUNT: creation, restore, reselection, window size, reading.
+ghost use mathlib.Core.Path.{_≡_};
+ghost use mathlib.Core.List.{[]};
+ghost use Rattle.nas_5gs.specs.Leaves.{leaves};
+ghost use Rattle.nas_c.specs.Numbers.{newNumbers, windowNumbers, nextCountNumber};
+use crate::Left;
+use crate::Shown;
+use crate::answers;
+use nas_5gs::Context;
+
+#[no_mangle]
+pub extern "C" fn saihdelu_new(
+    integrity: u8,
+    ciphering: u8,
+    integrity_key: &[u8; 16],
+    ciphering_key: &[u8; 16],
+) -> Left
+    ensures { λ r. ⌜ leaves (r .answer) (r .context) [] ≡ newNumbers integrity ciphering (now («integrity_key» .entry)) (now («ciphering_key» .entry)) ⌝ }
+{
+    answers::show_change(Context::new(integrity, ciphering, *integrity_key, *ciphering_key))
+}
+
+#[no_mangle]
+pub extern "C" fn saihdelu_set_window(context: Context, size: u8) -> Left
+    ensures { λ r. ⌜ leaves (r .answer) (r .context) [] ≡ windowNumbers context size ⌝ }
+{
+    answers::show_change(context.set_window(size))
+}
+
+#[no_mangle]
+pub extern "C" fn saihdelu_set_window_in_place(context: &mut Context, size: u8) -> Shown
+    ensures { λ r. ⌜ leaves r (now (context .exit)) [] ≡ windowNumbers (now (context .entry)) size ⌝ }
+{
+    let before = *context;
+    let done = saihdelu_set_window(before, size);
+    let after = done.context;
+    *context = after;
+    done.answer
+}
+
+// 4,294,967,295 where there is no such direction or connection: no record has that next COUNT.
+#[no_mangle]
+pub extern "C" fn saihdelu_next_count(context: Context, direction: u8, connection: u8) -> u32
+    ensures { λ r. ⌜ r ≡ nextCountNumber context direction connection ⌝ }
+{
+    if crate::no_way(direction, connection) {
+        return 4294967295;
+    }
+    let d = crate::direction_of(direction);
+    let k = crate::connection_of(connection);
+    context.next_count(d, k)
+}

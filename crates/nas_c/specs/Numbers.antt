@@ -1,7 +1,7 @@
 -- The calls for C over a 5GS context: directions and connections as numbers, every answer as one struct of its values.
 use Prim.Native.Nat.{ℕ}
 use mathlib.Core.Bool.{Bool, cond, _||_}
-use mathlib.Core.List.{List, [], _∷_}
+use mathlib.Core.List.{List}
 use lib.Dec.{eqb, ltb}
 use Rattle.nas_core.specs.Leaves.{Leaves}
 use Rattle.nas_5gs.specs.declared.Context.{Context}
@@ -9,11 +9,14 @@ use Rattle.nas_5gs.specs.declared.Direction.{Direction}
 use Rattle.nas_5gs.specs.declared.Direction.the-variants.{Uplink, Downlink}
 use Rattle.nas_5gs.specs.declared.Connection.{Connection}
 use Rattle.nas_5gs.specs.declared.Connection.the-variants.{ThreeGpp, Non3Gpp}
-use Rattle.nas_5gs.specs.Leaves.{leaves, LeavesTwo, leavesTwo, Values, refusal, changeValues, useValues, openValues}
+use Rattle.nas_5gs.specs.Leaves.{leaves, LeavesTwo, leavesTwo, Values, refusal, changeValues, useValues, openValues, epsOpenValues, octetValues, verifyValues}
 use Rattle.nas_5gs.specs.Places.{placeOf, nextAt}
-use Rattle.nas_5gs.specs.Changes.{newOf, windowOf}
-use Rattle.nas_5gs.specs.Seal.{sealOf}
+use Rattle.nas_5gs.specs.Changes.{newOf, restoreOf, reselectOf, windowOf}
+use Rattle.nas_5gs.specs.Seal.{sealOf, sealOpaqueOf}
+use Rattle.nas_5gs.specs.Initial.{initialOf}
 use Rattle.nas_5gs.specs.Open.{openOf}
+use Rattle.nas_5gs.specs.Eps.{sealEpsOf, openEpsOf}
+use Rattle.nas_5gs.specs.Containers.{n1ToS1Of, verifyN1ToS1Of, s1ToN1Of, verifyS1ToN1Of}
 use Rattle.nas_c.specs.declared.Shown.{Shown}
 
 -- directions are 0 and 1, connections 1 and 2
@@ -68,17 +71,54 @@ wayOr d k none call = cond (noWay d k) none (call (directionOf d) (connectionOf 
 unfoldable pub newNumbers : ℕ → ℕ → List ℕ → List ℕ → Leaves Context Shown
 newNumbers i c ik ck = numbers shown changeValues (newOf i c ik ck)
 
+unfoldable pub restoreNumbers : ℕ → ℕ → List ℕ → List ℕ → List ℕ → Leaves Context Shown
+restoreNumbers i c ik ck next = numbers shown changeValues (restoreOf i c ik ck next)
+
+unfoldable pub reselectNumbers : Context → ℕ → ℕ → List ℕ → List ℕ → Leaves Context Shown
+reselectNumbers x i c ik ck = numbers shown changeValues (reselectOf x i c ik ck)
+
 unfoldable pub windowNumbers : Context → ℕ → Leaves Context Shown
 windowNumbers x n = numbers shown changeValues (windowOf x n)
 
--- the next COUNT; 2^32 - 1 if there is no such way
+-- the next COUNT where there is no such way: no record has it
+abbrev pub noCount : ℕ
+noCount = 4294967295
+
 unfoldable pub nextCountNumber : Context → ℕ → ℕ → ℕ
-nextCountNumber x d k = wayOr d k 4294967295 (λ d k. nextAt x (placeOf d k))
+nextCountNumber x d k = wayOr d k noCount (λ d k. nextAt x (placeOf d k))
 
 unfoldable pub sealNumbers : Context → ℕ → ℕ → ℕ → List ℕ → List ℕ → Leaves Context Shown
 sealNumbers x t d k inner out =
     wayOr d k (leaves noSuchWay x out) (λ d k. numbers shown useValues (sealOf x t d k inner out))
 
+unfoldable pub opaqueNumbers : Context → ℕ → ℕ → ℕ → List ℕ → List ℕ → Leaves Context Shown
+opaqueNumbers x t d k inner out =
+    wayOr d k (leaves noSuchWay x out) (λ d k. numbers shown useValues (sealOpaqueOf x t d k inner out))
+
+-- always uplink
+unfoldable pub initialNumbers : Context → ℕ → List ℕ → List ℕ → Leaves Context Shown
+initialNumbers x k whole out =
+    cond (noConnection k) (leaves noSuchWay x out) (numbers shown useValues (initialOf x (connectionOf k) whole out))
+
 unfoldable pub openNumbers : Context → ℕ → ℕ → List ℕ → List ℕ → List ℕ → LeavesTwo Shown
 openNumbers x d k m out second =
     wayOr d k (leavesTwo noSuchWay x out second) (λ d k. numbersTwo openValues (openOf x d k m out second))
+
+-- messages and containers of a UE that goes between 5GS and EPS, of fixed direction and connection
+unfoldable pub sealEpsNumbers : Context → List ℕ → List ℕ → Leaves Context Shown
+sealEpsNumbers x inner out = numbers shown useValues (sealEpsOf x inner out)
+
+unfoldable pub openEpsNumbers : Context → List ℕ → List ℕ → Leaves Context Shown
+openEpsNumbers x m out = numbers shown epsOpenValues (openEpsOf x m out)
+
+unfoldable pub n1ToS1Numbers : Context → Leaves Context Shown
+n1ToS1Numbers x = numbers shown octetValues (n1ToS1Of x)
+
+unfoldable pub verifyN1ToS1Numbers : Context → ℕ → Leaves Context Shown
+verifyN1ToS1Numbers x octet = numbers shown verifyValues (verifyN1ToS1Of x octet)
+
+unfoldable pub s1ToN1Numbers : Context → ℕ → ℕ → List ℕ → Leaves Context Shown
+s1ToN1Numbers x ncc ngksi out = numbers shown useValues (s1ToN1Of x ncc ngksi out)
+
+unfoldable pub verifyS1ToN1Numbers : Context → List ℕ → Leaves Context Shown
+verifyS1ToN1Numbers x value = numbers shown useValues (verifyS1ToN1Of x value)

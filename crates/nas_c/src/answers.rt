@@ -1,16 +1,22 @@
 // Answers as their values, with the context that is handed back.
 ghost use mathlib.Core.Path.{_≡_};
-ghost use Rattle.nas_5gs.specs.Leaves.{changeValues, useValues, openValues};
+ghost use Rattle.nas_5gs.specs.Leaves.{changeValues, useValues, openValues, epsOpenValues, octetValues, verifyValues};
 ghost use Rattle.nas_c.specs.Numbers.{shown, noSuchWay};
 use crate::Left;
 use crate::Shown;
 use nas_5gs::ChangeAnswer;
 use nas_5gs::ChangeDone;
 use nas_5gs::Context;
+use nas_5gs::EpsOpenAnswer;
+use nas_5gs::EpsOpenDone;
+use nas_5gs::OctetAnswer;
+use nas_5gs::OctetDone;
 use nas_5gs::OpenAnswer;
 use nas_5gs::OpenDone;
 use nas_5gs::UseAnswer;
 use nas_5gs::UseDone;
+use nas_5gs::VerifyAnswer;
+use nas_5gs::VerifyDone;
 
 // A number alone; 0: a success that has no values.
 pub fn refusal(number: u8) -> Shown
@@ -62,11 +68,28 @@ fn content(carried: u8, header_type: u8, count: u32, distance: u32, wrote: usize
     }
 }
 
+// A success that answers an octet.
+pub fn with_octet(header_type: u8, octet: u8, count: u32, distance: u32) -> Shown
+    ensures { λ r. ⌜ r ≡ record { number = 0; carried = 0; «header_type» = «header_type»; octet = octet; connection = 0; count = count; distance = distance; wrote = 0; second = 0 } ⌝ }
+{
+    Shown {
+        number: 0,
+        carried: 0,
+        header_type,
+        octet,
+        connection: 0,
+        count,
+        distance,
+        wrote: 0,
+        second: 0,
+    }
+}
+
 pub fn no_such_way(context: Context) -> Left
     ensures { λ r. ⌜ r ≡ record { answer = noSuchWay; context = context } ⌝ }
 {
     Left {
-        answer: refusal(19),
+        answer: refusal(crate::NO_SUCH_WAY),
         context,
     }
 }
@@ -133,6 +156,70 @@ pub fn show_open(done: OpenDone) -> Left
             number,
         } => Left {
             answer: content(number, header_type, count, distance, wrote),
+            context,
+        },
+    }
+}
+
+pub fn show_eps_open(done: EpsOpenDone) -> Left
+    ensures { λ r. ⌜ r ≡ record { answer = shown (epsOpenValues (done .answer)); context = done .context } ⌝ }
+{
+    let context = done.context;
+    let answer = done.answer;
+    match answer {
+        EpsOpenAnswer::Refused(n) => Left {
+            answer: refusal(n),
+            context,
+        },
+        EpsOpenAnswer::Accepted {
+            count,
+            distance,
+            wrote,
+        } => Left {
+            answer: success(0, count, distance, wrote, 0),
+            context,
+        },
+        EpsOpenAnswer::Content {
+            count,
+            distance,
+            wrote,
+            number,
+        } => Left {
+            answer: content(number, 0, count, distance, wrote),
+            context,
+        },
+    }
+}
+
+pub fn show_octet(done: OctetDone) -> Left
+    ensures { λ r. ⌜ r ≡ record { answer = shown (octetValues (done .answer)); context = done .context } ⌝ }
+{
+    let context = done.context;
+    let answer = done.answer;
+    match answer {
+        OctetAnswer::Refused(n) => Left {
+            answer: refusal(n),
+            context,
+        },
+        OctetAnswer::Made { count, octet } => Left {
+            answer: with_octet(0, octet, count, 0),
+            context,
+        },
+    }
+}
+
+pub fn show_verify(done: VerifyDone) -> Left
+    ensures { λ r. ⌜ r ≡ record { answer = shown (verifyValues (done .answer)); context = done .context } ⌝ }
+{
+    let context = done.context;
+    let answer = done.answer;
+    match answer {
+        VerifyAnswer::Refused(n) => Left {
+            answer: refusal(n),
+            context,
+        },
+        VerifyAnswer::Verified { count, distance } => Left {
+            answer: success(0, count, distance, 0, 0),
             context,
         },
     }

@@ -6,6 +6,7 @@ ghost use Rattle.nas_c.specs.Numbers.{noDirection, noConnection, noWay, 
 
 mod answers;
 mod changes;
+mod containers;
 mod opens;
 mod seals;
 
@@ -32,6 +33,12 @@ pub struct Left {
     pub answer: Shown,
     pub context: Context,
 }
+
+// The refusal of a number that is no direction or no connection, before all else; 18 is the last refusal of the calls below.
+const NO_SUCH_WAY: u8 = 19;
+
+// The next COUNT where there is no such direction or connection: no record has it.
+const NO_COUNT: u32 = 4294967295;
 
 fn no_direction(direction: u8) -> bool
     ensures { λ r. ⌜ r ≡ noDirection direction ⌝ }

@@ -1,7 +1,7 @@
 // Opening.
 ghost use mathlib.Core.Path.{_≡_};
-ghost use Rattle.nas_5gs.specs.Leaves.{leavesTwo};
-ghost use Rattle.nas_c.specs.Numbers.{openNumbers};
+ghost use Rattle.nas_5gs.specs.Leaves.{leaves, leavesTwo};
+ghost use Rattle.nas_c.specs.Numbers.{openNumbers, openEpsNumbers};
 use crate::Left;
 use crate::Shown;
 use crate::answers;
@@ -42,4 +42,15 @@ pub extern "C" fn saihdelu_open_in_place(
     let after = done.context;
     *context = after;
     done.answer
+}
+
+#[no_mangle]
+pub extern "C" fn saihdelu_open_eps_message(
+    context: Context,
+    message: &[u8],
+    out: &mut [u8],
+) -> Left
+    ensures { λ r. ⌜ leaves (r .answer) (r .context) (now (out .exit)) ≡ openEpsNumbers context (now (message .entry)) (now (out .entry)) ⌝ }
+{
+    answers::show_eps_open(context.open_eps(message, out))
 }

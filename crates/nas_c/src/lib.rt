@@ -7,6 +7,7 @@ ghost use Rattle.nas_c.specs.Numbers.{noDirection, noConnection, noWay, 
 mod answers;
 mod changes;
 mod containers;
+mod eps;
 mod opens;
 mod seals;
 
@@ -32,6 +33,12 @@ pub struct Shown {
 pub struct Left {
     pub answer: Shown,
     pub context: Context,
+}
+
+#[repr(C)]
+pub struct EpsLeft {
+    pub answer: Shown,
+    pub context: nas_eps::Context,
 }
 
 // The refusal of a number that is no direction or no connection, before all else; 18 is the last refusal of the calls below.

@@ -8,6 +8,7 @@ mod answers;
 mod changes;
 mod containers;
 mod eps;
+mod journals;
 mod opens;
 mod seals;
 

@@ -80,7 +80,7 @@ reselectNumbers x i c ik ck = numbers shown changeValues (reselectOf x i c ik ck
 unfoldable pub windowNumbers : Context → ℕ → Leaves Context Shown
 windowNumbers x n = numbers shown changeValues (windowOf x n)
 
--- the next COUNT where there is no such way: no record has it
+-- answered where there is no such way: it is no next COUNT
 abbrev pub noCount : ℕ
 noCount = 4294967295
 

@@ -45,7 +45,7 @@ pub struct EpsLeft {
 // The refusal of a number that is no direction or no connection, before all else; 18 is the last refusal of the calls below.
 const NO_SUCH_WAY: u8 = 19;
 
-// The next COUNT where there is no such direction or connection: no record has it.
+// Answered for the next COUNT of a direction or connection that is none: it is no next COUNT.
 const NO_COUNT: u32 = 4294967295;
 
 fn no_direction(direction: u8) -> bool

@@ -7,7 +7,7 @@ from xml.sax.saxutils import escape
 # candidate: what its line is called, its colour and dashes
 LINES = {
     "b": ("original (b): no AES instructions", "#8c564b", "2 3"),
-    "by value": ("this library", "#d62728", ""),
+    "by value": ("this library, by value", "#d62728", ""),
     "a2": ("original (a2): aes, ctr, cmac", "#1f77b4", ""),
     "a": ("original (a): aes, ctr, chained CMAC", "#1f77b4", "6 3"),
     "c": ("original (c): OpenSSL", "#2ca02c", "6 3 2 3"),

@@ -1,14 +1,14 @@
 #!/usr/bin/env python3
-"""Tables of what the bench printed, in Markdown: table.py TIMES LENGTHS COUNTS [PAGE].
-With a PAGE they take the place of what stands there between the lines START and END."""
+"""Tables of what the bench printed, in Markdown: table.py TIMES LENGTHS COUNTS PAGE; standard input says when and where.
+In the PAGE they take the place of what stands between `<!-- limits -->` and `<!-- /limits -->`, and likewise for figures."""
 import sys
 
-START, END = "<!-- written by host/bench/run.sh -->", "<!-- to here -->"
 OURS = ["by value", "in place"]
 CALLS = ["seal", "open"]
 NAMES = {"a": "(a)", "a2": "(a2)", "b": "(b)", "c": "(c)", "copy": "a new Vec of the input alone"}
 # at most so many times as long, for seal and open of 64 octets, seal and open of 8,192: the customer's limit, and what stands in for it
 LIMITS = [("asked: 3 times (a)", "a", [3] * 4), ("asked: 3 times (a2)", "a2", [3] * 4), ("asked: 3 times (b)", "b", [3] * 4),
+          ("asked: 3 times (c)", "c", [3] * 4),
           ("stands in: (a2)", "a2", [3, 3, 3, 3.3]), ("stands in: (b)", "b", [0.35] * 4)]
 
 
@@ -103,32 +103,39 @@ def per_block(figures):
     return table(["", "code", "ciphering", "both"], rows)
 
 
-def report(times, lengths, counts):
-    yield "ns of a whole call with codes 2 and 2:\n\n" + values(times, 2)
-    yield "How many times as long:\n\n" + ratios(times, 2)
-    yield "Against the limits, by value or in place, whichever takes longer; what is not met is bold:\n\n" + limits(times)
-    yield "How many times as long over length, by value:\n\n" + over_length(lengths)
-    yield "ns for each octet more, between two lengths:\n\n" + per_octet(lengths)
-    yield f"Cycles (of {times.cycle:.3f} ns) for each 16 octets more of a seal, between 64 and 8,192:\n\n" + per_block(times)
-    yield "Instructions of a whole call, counted by callgrind:\n\n" + values(counts, 2)
-    yield "SNOW 3G, codes 1 and 1, the original over libipsec-mb: ns, and how many times as long:\n\n" + values(times, 1) + ratios(times, 1)
-    yield "ZUC, codes 3 and 3, likewise:\n\n" + values(times, 3) + ratios(times, 3)
+def limits_block(conditions, times):
+    head = "How many times as long as the original, by value or in place, whichever takes longer; what is not met is bold:"
+    return f"{head}\n\n{limits(times)}{conditions}"
 
 
-def replace(page, text):
-    old = open(page).read()
-    before, rest = old.split(START + "\n", 1)
-    after = rest.split(END, 1)[1]
-    open(page, "w").write(before + START + "\n\n" + text + END + after)
+def figures_block(times, lengths, counts):
+    return "".join([
+        "ns of a whole call with codes 2 and 2:\n\n", values(times, 2),
+        "How many times as long:\n\n", ratios(times, 2),
+        "How many times as long over length, by value:\n\n", over_length(lengths),
+        "ns for each octet more, between two lengths:\n\n", per_octet(lengths),
+        f"Cycles (of {times.cycle:.3f} ns) for each 16 octets more of a seal, between 64 and 8,192:\n\n", per_block(times),
+        "Instructions of a whole call, counted by callgrind:\n\n", values(counts, 2),
+        "SNOW 3G, codes 1 and 1, the original over libipsec-mb: ns, and how many times as long:\n\n", values(times, 1), ratios(times, 1),
+        "ZUC, codes 3 and 3, likewise:\n\n", values(times, 3), ratios(times, 3)])
+
+
+def replace(page, block, text):
+    start, end = f"<!-- {block} -->", f"<!-- /{block} -->"
+    before, rest = page.split(start)
+    _, after = rest.split(end)
+    return f"{before}{start}\n\n{text.strip()}\n\n{end}{after}"
 
 
 def main():
-    times, lengths, counts, *page = sys.argv[1:]
-    text = "".join(report(Figures(times), Figures(lengths), Figures(counts, lambda v: v[1] / v[0])))
-    text = sys.stdin.read() + "\n" + text
-    for path in page:
-        replace(path, text)
-    print(text, end="")
+    times, lengths, counts, path = sys.argv[1:]
+    times, lengths, counts = Figures(times), Figures(lengths), Figures(counts, lambda v: v[1] / v[0])
+    blocks = {"limits": limits_block(sys.stdin.read(), times), "figures": figures_block(times, lengths, counts)}
+    page = open(path).read()
+    for block, text in blocks.items():
+        page = replace(page, block, text)
+        print(text)
+    open(path, "w").write(page)
 
 
 main()

@@ -1,7 +1,7 @@
 //! AES-128 by OpenSSL 3 (Debian: libssl3): counter mode, and CMAC as CBC over the padded message, which is quicker than its own CMAC.
 use crate::chained::{Subkeys, xor};
 use core::ffi::{c_int, c_void};
-use core::ptr::{null, null_mut};
+use core::ptr::null;
 
 #[link(name = "libcrypto.so.3", kind = "dylib", modifiers = "+verbatim")]
 unsafe extern "C" {
@@ -46,7 +46,6 @@ impl Clone for Mode {
 impl Drop for Mode {
     fn drop(&mut self) {
         unsafe { EVP_CIPHER_CTX_free(self.0) }
-        self.0 = null_mut();
     }
 }
 

@@ -21,7 +21,9 @@ LONGEST = 65535
 def read(path):
     points = {}
     for line in open(path):
-        _, _, call, octets, candidate, ns = line.rstrip("\n").split("\t")
+        kind, _, call, octets, candidate, ns = line.rstrip("\n").split("\t")
+        if kind != "time":
+            continue
         points.setdefault((call, candidate), []).append((int(octets), float(ns)))
         if candidate == "a2":
             points.setdefault((call, "limit"), []).append((int(octets), 3 * float(ns)))

@@ -1,6 +1,6 @@
 //! Times whole calls of the original and of this library. run.sh builds and runs it; each mode prints one line for each figure:
-//! kind, code of both algorithms, call, octets, candidate, value, tab between them.
-//!   bench times ROUNDS     ns of a call at the lengths of the table, and of a processor cycle
+//! kind, code of both algorithms, call, octets, candidate, value, tab between them. Beside the times stands the ns of a processor's cycle.
+//!   bench times ROUNDS     ns of a call at the lengths of the table
 //!   bench lengths ROUNDS   ns of a call at lengths from 1 to 65,535
 //!   bench count            for callgrind: a call of `mark` before and after each line's calls, the number of calls as the value
 mod agree;
@@ -43,11 +43,14 @@ const TURNS: usize = 5;
 /// computer, which comes and goes, does not meet all the batches of one job.
 fn times(jobs: &[Job], rounds: usize) {
     let mut rows: Vec<Vec<_>> = jobs.iter().map(|job| entrants(job).into_iter().map(|c| (c, f64::MAX)).collect()).collect();
+    let mut cycle = f64::MAX;
     for _ in 0..rounds {
+        cycle = cycle.min(clock::cycle());
         for (job, row) in jobs.iter().zip(&mut rows) {
             (0..TURNS).for_each(|_| turn(job, row));
         }
     }
+    println!("cycle\t-\t-\t-\t-\t{cycle:.4}");
     for (job, row) in jobs.iter().zip(rows) {
         for (candidate, least) in row {
             println!("time\t{job}\t{}\t{least:.2}", candidate.name());
@@ -85,10 +88,7 @@ fn main() {
     let rounds = arguments.get(1).map_or(10, |n| n.parse().expect("ROUNDS is a number"));
     agree::check();
     match arguments.first().map(String::as_str) {
-        Some("times") => {
-            println!("cycle\t-\t-\t-\t-\t{:.4}", clock::cycle());
-            times(&table_jobs(), rounds);
-        }
+        Some("times") => times(&table_jobs(), rounds),
         Some("lengths") => times(&length_jobs(), rounds),
         Some("count") => count(),
         _ => panic!("bench times ROUNDS | lengths ROUNDS | count"),

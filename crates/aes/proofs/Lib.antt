@@ -8,3 +8,4 @@ pub mod Mac
 pub mod Counters
 pub mod Octets
 pub mod Laws
+pub mod Parts

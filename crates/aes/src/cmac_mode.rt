@@ -236,7 +236,8 @@ pub fn cmac_with(
         x = next;
         done += 1;
     }
-    let b = block_at(head, message, n * 16);
+    // `block_at` is called at one place, so that it is inlined there.
+    let b = gathered_block(head, message, n * 16);
     let last = keyed_block(k1, k2, b, length - n * 16 == 16);
     encrypt_with(table, w, xor_block(x, last))
 }

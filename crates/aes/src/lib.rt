@@ -10,6 +10,7 @@ pub use cmac_mode::cmac;
 pub use counter_mode::ctr;
 pub use nas::nea2;
 pub use nas::nia2;
+pub use nas::protect2;
 
 // A key with what it expands to. Only `Key::of` makes one: its fields are this crate's.
 #[repr(C)]

@@ -1,5 +1,9 @@
 // TS 33.501 Annex D: 128-NIA2 and 128-NEA2.
 ghost use mathlib.Core.Path.{_≡_};
+ghost use mathlib.Core.List.{_++_};
+ghost use Prim.Native.Nat.{_≤_};
+ghost use lib.ListN.{length, take, drop};
+ghost use Rattle.aes_block.specs.Mix.{mixTable};
 ghost use Rattle.aes.specs.Nas.{head as headOf};
 ghost use Rattle.aes.specs.Keys.{nia2By, nea2By};
 use crate::Key;
@@ -22,24 +26,29 @@ fn head(count: u32, bearer: u8, direction: u8) -> [u8; 8]
     ]
 }
 
-// 128-NIA2.
-pub fn nia2(key: Key, count: u32, bearer: u8, direction: u8, message: &[u8]) -> [u8; 4]
+fn nia2_with(
+    table: &[u64; 256],
+    key: Key,
+    count: u32,
+    bearer: u8,
+    direction: u8,
+    message: &[u8],
+) -> [u8; 4]
+    requires { ⌜ now table ≡ mixTable ⌝ }
     ensures { λ r. ⌜ r ≡ nia2By key count bearer direction (now (message .entry)) ⌝ }
 {
-    let table = mix_table();
     let w = key.schedule;
     let k1 = key.subkey1;
     let k2 = key.subkey2;
     let h = head(count, bearer, direction);
-    let t = cmac_with(&table, &w, k1, k2, &h, message);
+    let t = cmac_with(table, &w, k1, k2, &h, message);
     [t[0], t[1], t[2], t[3]]
 }
 
-// 128-NEA2, in place.
-pub fn nea2(key: Key, count: u32, bearer: u8, direction: u8, m: &mut [u8])
+fn nea2_with(table: &[u64; 256], key: Key, count: u32, bearer: u8, direction: u8, m: &mut [u8])
+    requires { ⌜ now table ≡ mixTable ⌝ }
     ensures { λ r. ⌜ now (m .exit) ≡ nea2By key count bearer direction (now (m .entry)) ⌝ }
 {
-    let table = mix_table();
     let w = key.schedule;
     let h = head(count, bearer, direction);
     let t = [
@@ -60,5 +69,39 @@ pub fn nea2(key: Key, count: u32, bearer: u8, direction: u8, m: &mut [u8])
         0,
         0,
     ];
-    ctr_with(&table, &w, t, m);
+    ctr_with(table, &w, t, m);
+}
+
+// 128-NIA2.
+pub fn nia2(key: Key, count: u32, bearer: u8, direction: u8, message: &[u8]) -> [u8; 4]
+    ensures { λ r. ⌜ r ≡ nia2By key count bearer direction (now (message .entry)) ⌝ }
+{
+    let table = mix_table();
+    nia2_with(&table, key, count, bearer, direction, message)
+}
+
+// 128-NEA2, in place.
+pub fn nea2(key: Key, count: u32, bearer: u8, direction: u8, m: &mut [u8])
+    ensures { λ r. ⌜ now (m .exit) ≡ nea2By key count bearer direction (now (m .entry)) ⌝ }
+{
+    let table = mix_table();
+    nea2_with(&table, key, count, bearer, direction, m);
+}
+
+// 128-NEA2 of what is behind the first octet, in place, and 128-NIA2 of the whole then: the table is written to the stack once.
+pub fn protect2(
+    integrity_key: Key,
+    ciphering_key: Key,
+    count: u32,
+    bearer: u8,
+    direction: u8,
+    m: &mut [u8],
+) -> [u8; 4]
+    requires { ⌜ 1 ≤ length (now m) ⌝ }
+    ensures ciphered { λ r. ⌜ now (m .exit) ≡ take 1 (now (m .entry)) ++ nea2By «ciphering_key» count bearer direction (drop 1 (now (m .entry))) ⌝ }
+    ensures code { λ r. ⌜ r ≡ nia2By «integrity_key» count bearer direction (now (m .exit)) ⌝ }
+{
+    let table = mix_table();
+    nea2_with(&table, ciphering_key, count, bearer, direction, &mut m[1..]);
+    nia2_with(&table, integrity_key, count, bearer, direction, m)
 }

@@ -1,5 +1,10 @@
 // An algorithm by its code (TS 24.501 Table 9.11.3.34.1): 0 is null, 1 SNOW 3G, 2 AES and 3 ZUC.
 ghost use mathlib.Core.Path.{_≡_};
+ghost use mathlib.Core.Bool.{_&&_};
+ghost use mathlib.Core.List.{_++_};
+ghost use Prim.Native.Nat.{_≤_};
+ghost use lib.Dec.{eqb};
+ghost use lib.ListN.{length, take, drop};
 ghost use Rattle.snow3g.specs.Uea2.{nea1Of};
 ghost use Rattle.snow3g.specs.Uia2.{nia1Of};
 ghost use Rattle.zuc.specs.Ciphering.{nea3Of};
@@ -76,4 +81,49 @@ pub fn cipher(algorithm: u8, key: Key, count: u32, bearer: u8, direction: u8, oc
     if algorithm == 3 {
         nea3(key, count, bearer, direction, octets);
     }
+}
+
+fn are_aes(integrity: u8, ciphering: u8) -> bool
+    ensures { λ r. ⌜ r ≡ eqb integrity 2 && eqb ciphering 2 ⌝ }
+{
+    if integrity == 2 {
+        return ciphering == 2;
+    }
+    false
+}
+
+// What is behind the first octet ciphered where it lies, and the code of the whole then: in one call where both algorithms are AES.
+pub fn protect(
+    integrity: u8,
+    ciphering: u8,
+    integrity_key: Key,
+    ciphering_key: Key,
+    count: u32,
+    bearer: u8,
+    direction: u8,
+    octets: &mut [u8],
+) -> [u8; 4]
+    requires { ⌜ 1 ≤ length (now octets) ⌝ }
+    ensures ciphered { λ r. ⌜ now (octets .exit) ≡ take 1 (now (octets .entry)) ++ cipherOf ciphering «ciphering_key» count bearer direction (drop 1 (now (octets .entry))) ⌝ }
+    ensures code { λ r. ⌜ r ≡ codeOf integrity «integrity_key» count bearer direction (now (octets .exit)) ⌝ }
+{
+    if are_aes(integrity, ciphering) {
+        return aes::protect2(
+            integrity_key,
+            ciphering_key,
+            count,
+            bearer,
+            direction,
+            octets,
+        );
+    }
+    cipher(
+        ciphering,
+        ciphering_key,
+        count,
+        bearer,
+        direction,
+        &mut octets[1..],
+    );
+    code(integrity, integrity_key, count, bearer, direction, octets)
 }

@@ -1,10 +1,9 @@
 // 5GS and EPS messages, initial messages with their container, and the S1-to-N1 container as octets, made and read with a context's keys.
 ghost use mathlib.Core.Path.{_≡_};
-ghost use mathlib.Core.List.{_∷_};
 ghost use Prim.Native.Nat.{_+_, _-_, _≤_};
 ghost use lib.ListN.{length, drop};
 ghost use Rattle.look.specs.Look.{lookOf};
-ghost use Rattle.nas_core.specs.Keyed.{payload, protected};
+ghost use Rattle.nas_core.specs.Keyed.{payload};
 ghost use Rattle.nas_core.specs.Verify.{fits};
 ghost use Rattle.envelope.specs.Envelope.{ciphers, envelope, over};
 ghost use Rattle.envelope.specs.Eps.{notEps, epsMessage};
@@ -46,12 +45,13 @@ const CONTAINER_DIRECTION: u8 = 1;
 // The COUNT of the S1-to-N1 container's code (TS 33.501 6.9.2.3.3).
 const S1_COUNT: u32 = 4294967295;
 
-// The payload stands behind seven octets: the header is written there.
+// The inner message stands behind seven octets: it is ciphered as the header type says, and the header is written there.
 fn wrap(core: Core, header_type: u8, count: u32, bearer: u8, direction: u8, message: &mut [u8])
     requires { ⌜ 7 ≤ length (now message) ⌝ }
-    ensures { λ r. ⌜ now (message .exit) ≡ 0x7E ∷ «header_type» ∷ protected core count bearer direction (drop 7 (now (message .entry))) ⌝ }
+    ensures { λ r. ⌜ now (message .exit) ≡ envelope core «header_type» count bearer direction (drop 7 (now (message .entry))) ⌝ }
 {
-    core.protect(count, bearer, direction, &mut message[CODE..]);
+    let ciphered = nas_core::is_ciphering(header_type);
+    core.seal(ciphered, count, bearer, direction, &mut message[CODE..]);
     message[0] = 0x7e;
     message[1] = header_type;
 }
@@ -70,15 +70,7 @@ pub fn put(
     ensures { λ r. ⌜ now (out .exit) ≡ over (envelope core «header_type» count bearer direction (now (inner .entry))) (now (out .entry)) ⌝ }
 {
     let end = HEADER + inner.len();
-    let ciphered = nas_core::is_ciphering(header_type);
-    core.fill(
-        ciphered,
-        count,
-        bearer,
-        direction,
-        inner,
-        &mut out[HEADER..end],
-    );
+    nas_core::copy(inner, &mut out[HEADER..end]);
     wrap(core, header_type, count, bearer, direction, &mut out[..end]);
 }
 

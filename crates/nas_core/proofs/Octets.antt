@@ -1,12 +1,13 @@
 -- Octets of a list: stored one by one, written to the front of an output, and four compared as one number.
 use mathlib.Core.Path.{_≡_, refl, ap, sym, _∙_}
 use mathlib.Core.Bool.{Bool, true, false, _&&_}
-use mathlib.Core.List.{List, [], _∷_, _++_, append-assoc}
+use mathlib.Core.List.{List, [], _∷_, _++_, append-assoc, append-nil}
 use Prim.Native.Nat.{ℕ, _+_, _*_, _-_, _≤_, _<_}
 use native.Mathlib.Omega.{arith}
-use lib.ListN.{length, take, drop, getD, length-drop}
+use lib.ListN.{length, take, drop, getD, length-drop, drop-of-length-le}
 use lib.Seq.{take-all, sets, sets-eq, drop-at, length-take-le}
 use lib.Dec.{eqb}
+use borrow.Rule.Slice.PartMut.{putMid}
 use borrow.Author.Tests.{eq-eqb, ne-eqb, eqb-true, eqb-false}
 use Rattle.nas_core.specs.Leaves.{over}
 use Rattle.nas_core.specs.Verify.{same}
@@ -35,6 +36,14 @@ stored-behind vs xs h =
 pub rest : (n : ℕ) (m : List ℕ) → take (length m - n) (drop n m) ≡ drop n m
 rest n m =
     let h : length (drop n m) ≤ length m - n = simp length-drop (omega arith) in take-all (length m - n) (drop n m) h
+
+-- and what `&mut m[n..]` left there is the rest again
+pub rest-back : (n : ℕ) (m ys : List ℕ) → n ≤ length m → drop n (putMid n (length m - n) m ys) ≡ ys
+rest-back n m ys h =
+    let none : length (drop n m) ≤ length m - n = simp length-drop (omega arith) in
+    drop-at (take n m) (ys ++ drop (length m - n) (drop n m)) n (length-take-le n m h)
+    ∙ ap (λ (z : List ℕ). ys ++ z) (drop-of-length-le (drop n m) none)
+    ∙ append-nil ys
 
 -- two parts, each equal
 pub joined : {k k′ z z′ : List ℕ} → k ≡ k′ → z ≡ z′ → k ++ z ≡ k′ ++ z′

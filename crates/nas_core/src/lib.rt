@@ -3,7 +3,7 @@ ghost use mathlib.Core.Path.{_≡_};
 ghost use mathlib.Core.Bool.{false, cond};
 ghost use mathlib.Core.List.{_++_};
 ghost use Prim.Native.Nat.{_+_, _-_, _*_, _≤_, _<_};
-ghost use lib.ListN.{length, drop, getD};
+ghost use lib.ListN.{length, take, drop, getD};
 ghost use Rattle.count.specs.Rule.{exhausted, forwardOf, lateOf, tryForward};
 ghost use Rattle.refusals.specs.Order.{first};
 ghost use Rattle.nas_core.specs.Refusals.{coreFault, sendRefusals, handRefusals, unbuilt};
@@ -187,14 +187,52 @@ impl Core {
         }
     }
 
+    // What is behind the first octet ciphered where it lies, if it is to be, and the code of the whole then.
+    fn cipher_and_code(
+        self,
+        ciphered: bool,
+        count: u32,
+        bearer: u8,
+        direction: u8,
+        octets: &mut [u8],
+    ) -> [u8; 4]
+        requires { ⌜ 1 ≤ length (now octets) ⌝ }
+        ensures ciphered { λ r. ⌜ now (octets .exit) ≡ take 1 (now (octets .entry)) ++ payload self ciphered count bearer direction (drop 1 (now (octets .entry))) ⌝ }
+        ensures code { λ r. ⌜ r ≡ codeBy self count bearer direction (now (octets .exit)) ⌝ }
+    {
+        if ciphered {
+            let integrity_key = self.integrity_key;
+            let ciphering_key = self.ciphering_key;
+            return algorithms::protect(
+                self.integrity,
+                self.ciphering,
+                integrity_key,
+                ciphering_key,
+                count,
+                bearer,
+                direction,
+                octets,
+            );
+        }
+        self.code(count, bearer, direction, octets)
+    }
+
+    // The inner octets stand behind five octets: they are ciphered if they are to be, and the code and the last octet of the COUNT are written in front.
+    pub fn seal(self, ciphered: bool, count: u32, bearer: u8, direction: u8, body: &mut [u8])
+        requires { ⌜ 5 ≤ length (now body) ⌝ }
+        ensures { λ r. ⌜ now (body .exit) ≡ protected self count bearer direction (payload self ciphered count bearer direction (drop 5 (now (body .entry)))) ⌝ }
+    {
+        body[4] = (count % 256) as u8;
+        let code = self.cipher_and_code(ciphered, count, bearer, direction, &mut body[4..]);
+        put_code(code, body);
+    }
+
     // The payload stands behind five octets: the code and the last octet of the COUNT are written there.
     pub fn protect(self, count: u32, bearer: u8, direction: u8, body: &mut [u8])
         requires { ⌜ 5 ≤ length (now body) ⌝ }
         ensures { λ r. ⌜ now (body .exit) ≡ protected self count bearer direction (drop 5 (now (body .entry))) ⌝ }
     {
-        body[4] = (count % 256) as u8;
-        let code = self.code(count, bearer, direction, &body[4..]);
-        put_code(code, body);
+        self.seal(false, count, bearer, direction, body);
     }
 
     // Whether the code that begins at octet `at` fits the COUNT.

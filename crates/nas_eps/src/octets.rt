@@ -64,22 +64,15 @@ pub fn form_refusal(message: &[u8]) -> u8
     0
 }
 
-// A message to the front of the output: the payload behind its six header octets, then these.
+// A message to the front of the output: the inner octets behind its six header octets, then these are written and the inner octets ciphered as the header type says.
 pub fn put(core: Core, header_type: u8, count: u32, direction: u8, inner: &[u8], out: &mut [u8])
     requires { ⌜ («header_type» ≤ 4) × (6 + length (now inner) ≤ length (now out)) ⌝ }
     ensures { λ r. ⌜ now (out .exit) ≡ over (message core «header_type» count direction (now (inner .entry))) (now (out .entry)) ⌝ }
 {
     let end = HEADER + inner.len();
+    nas_core::copy(inner, &mut out[HEADER..end]);
     let ciphered = nas_core::is_ciphering(header_type);
-    core.fill(
-        ciphered,
-        count,
-        BEARER,
-        direction,
-        inner,
-        &mut out[HEADER..end],
-    );
-    core.protect(count, BEARER, direction, &mut out[CODE..end]);
+    core.seal(ciphered, count, BEARER, direction, &mut out[CODE..end]);
     out[0] = header_type * 16 + 7;
 }
 

@@ -37,7 +37,7 @@ returns c =
     let a = l .before .before .before .before .args in
     let e : length (a .head .now ++ a .message .now) ≡ length (a .head .now) + length (a .message .now) = length-append (a .head .now) (a .message .now) in
     let d : l .loop .done ≡ l .before .blocks-before-last .result = omega arith in
-    rw (c .encrypt-with2 .ensures, c .before .xor-block2 .ensures, c .before .before .keyed-block .ensures, c .before .before .before .block-at2 .ensures, l .loop .inv .1, d, ← e)
+    rw (c .encrypt-with2 .ensures, c .before .xor-block2 .ensures, c .before .before .keyed-block .ensures, c .before .before .before .gathered-block .ensures, l .loop .inv .1, d, ← e)
     (mac-end (cipher (a .w .now)) (a .k1) (a .k2) (a .head .now ++ a .message .now) (l .before .blocks-before-last .result) (rw e (l .before .blocks-before-last .ensures)))
 
 pub cmac-with-spec : {M : Type 1} → statement M

@@ -1,12 +1,11 @@
 use mathlib.Core.Path.{_≡_, refl, ap, sym, _∙_}
 use native.Mathlib.Omega.{arith}
 use Prim.Native.Nat.{ℕ, _+_, _≤_}
-use mathlib.Core.List.{List, _∷_}
+use mathlib.Core.List.{List}
 use lib.ListN.{length, length-take, length-drop}
-use Rattle.nas_core.specs.Keyed.{payload, protected}
 use Rattle.envelope.proofs.Lengths.{initial-length}
 use Rattle.envelope.proofs.Wrapped.{front-length, behind, wrapped}
-use Rattle.envelope.specs.Envelope.{ciphers, envelope}
+use Rattle.envelope.specs.Envelope.{envelope}
 use Rattle.envelope.specs.Initial.{initialEnvelope}
 use borrow.Author.Needs.{needs}
 use Rattle.envelope.proofs.outgoing.put_initial.Statement.{statement}
@@ -36,12 +35,12 @@ wrap-requires c κs =
     omega (arith, front-length (7 + size f) (size f) (f .before .before .before .before .before .args .out .now) (back f) refl (room f) (many f))
 
 returns : tie.Need-returns
-unfolding initialEnvelope envelope ciphers payload
+unfolding initialEnvelope
 returns c =
     let s = c .before .before .before .before .before .before .before .before .before .before .before in
     let f = c .before .before .before .before .before .before in
     wrapped (7 + size f) (size f) (s .args .out .now) (back f) refl (room f) (many f) _ _
-    (c .before .before .wrap .ensures ∙ ap (λ (l : List ℕ). 0x7E ∷ 1 ∷ protected (s .args .core) (s .args .count) (s .args .bearer) 0 l) (behind (7 + size f) (size f) (s .args .out .now) (back f) refl (room f) (many f) ∙ f .put-outgoing .ensures))
+    (c .before .before .wrap .ensures ∙ ap (λ (l : List ℕ). envelope (s .args .core) 1 (s .args .count) (s .args .bearer) 0 l) (behind (7 + size f) (size f) (s .args .out .now) (back f) refl (room f) (many f) ∙ f .put-outgoing .ensures))
     (initial-length (s .args .core) (s .args .count) (s .args .bearer) (s .args .whole .now) (s .pre .0) ∙ ap (λ (n : ℕ). 7 + n) (sym (f .before .before .outer-length .ensures)))
 
 pub put-initial-spec : {M : Type 1} → statement M

@@ -2,8 +2,10 @@
 ghost use mathlib.Core.Path.{_≡_};
 ghost use mathlib.Core.List.{_++_};
 ghost use Prim.Native.Nat.{_≤_};
-ghost use lib.ListN.{length, take, drop};
+ghost use lib.ListN.{length, take, drop, replicate};
+ghost use Rattle.aes_block.specs.Cipher.{cipher};
 ghost use Rattle.aes_block.specs.Mix.{mixTable};
+ghost use Rattle.aes.specs.Counter.{ctrOf};
 ghost use Rattle.aes.specs.Nas.{head as headOf};
 ghost use Rattle.aes.specs.Keys.{nia2By, nea2By};
 use crate::Key;
@@ -45,11 +47,11 @@ fn nia2_with(
     [t[0], t[1], t[2], t[3]]
 }
 
-fn nea2_with(table: &[u64; 256], key: Key, count: u32, bearer: u8, direction: u8, m: &mut [u8])
+// By a key's schedule alone: the rest of a key is not copied for it.
+fn nea2_with(table: &[u64; 256], w: &[u8; 176], count: u32, bearer: u8, direction: u8, m: &mut [u8])
     requires { ⌜ now table ≡ mixTable ⌝ }
-    ensures { λ r. ⌜ now (m .exit) ≡ nea2By key count bearer direction (now (m .entry)) ⌝ }
+    ensures { λ r. ⌜ now (m .exit) ≡ ctrOf (cipher (now (w .entry))) (headOf count bearer direction ++ replicate 8 0) (now (m .entry)) ⌝ }
 {
-    let w = key.schedule;
     let h = head(count, bearer, direction);
     let t = [
         h[0],
@@ -69,7 +71,7 @@ fn nea2_with(table: &[u64; 256], key: Key, count: u32, bearer: u8, direction: u8
         0,
         0,
     ];
-    ctr_with(table, &w, t, m);
+    ctr_with(table, w, t, m);
 }
 
 // 128-NIA2.
@@ -85,7 +87,8 @@ pub fn nea2(key: Key, count: u32, bearer: u8, direction: u8, m: &mut [u8])
     ensures { λ r. ⌜ now (m .exit) ≡ nea2By key count bearer direction (now (m .entry)) ⌝ }
 {
     let table = mix_table();
-    nea2_with(&table, key, count, bearer, direction, m);
+    let w = key.schedule;
+    nea2_with(&table, &w, count, bearer, direction, m);
 }
 
 // 128-NEA2 of what is behind the first octet, in place, and 128-NIA2 of the whole then: the table is written to the stack once.
@@ -102,6 +105,7 @@ pub fn protect2(
     ensures code { λ r. ⌜ r ≡ nia2By «integrity_key» count bearer direction (now (m .exit)) ⌝ }
 {
     let table = mix_table();
-    nea2_with(&table, ciphering_key, count, bearer, direction, &mut m[1..]);
+    let w = ciphering_key.schedule;
+    nea2_with(&table, &w, count, bearer, direction, &mut m[1..]);
     nia2_with(&table, integrity_key, count, bearer, direction, m)
 }

@@ -3,15 +3,13 @@ use mathlib.Core.List.{List, _++_}
 use Prim.Native.Nat.{ℕ}
 use lib.ListN.{replicate}
 use Rattle.aes_block.proofs.Lists.{itself}
-use Rattle.aes.specs.Keys.{nea2By}
 use borrow.Author.Needs.{needs}
 use Rattle.aes.proofs.nas.nea2_with.Statement.{statement}
 use Rattle.aes.proofs.nas.nea2_with.Tie as tie
 
 returns : tie.Need-returns
-unfolding nea2By
 returns c =
-    let b = c .before .before .before .before .before in
+    let b = c .before .before .before .before in
     let e = ap (λ (l : List ℕ). l ++ replicate 8 0) (itself 8 (b .head .result) (b .head .ok .1 .0 .1)) in
     rw (c .before .before .ctr-with .ensures, e, b .head .ensures)
 

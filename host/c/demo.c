@@ -1,6 +1,7 @@
-/* Two ends of a link, in C: seals, opens in order and late, a repeated message, refusal 8 with its plaintext, and SERVICE REQUEST
-   on an EPS context. Keys and messages are those of docs/HEX-LINES.md and of the EPS session (crates/checks_eps), so every octet is
-   known beforehand. Prints what it does; exit status 1 if an answer differs. */
+/* Two ends of a link, in C: seals, opens in order and late, a repeated message, refusal 8 with its plaintext, a handover between
+   accesses, and SERVICE REQUEST on an EPS context. Keys and messages are those of docs/HEX-LINES.md and of the EPS session
+   (crates/checks_eps), those of the handover come from differential/model.py, so every octet is known beforehand. Prints what it
+   does; exit status 1 if an answer differs. */
 #include "saihdelu.h"
 #include <stdio.h>
 #include <string.h>
@@ -26,11 +27,12 @@ static int same_octets(const char *hex, const uint8_t *octets, size_t n) {
 
 static void check(const char *what, saihdelu_answer a, const uint8_t *out, expected e) {
     int same = a.number == e.answer.number && a.carried == e.answer.carried && a.header_type == e.answer.header_type &&
-               a.octet == e.answer.octet && a.count == e.answer.count && a.distance == e.answer.distance &&
-               a.second == e.answer.second && same_octets(e.out, out, a.wrote);
+               a.octet == e.answer.octet && a.connection == e.answer.connection && a.count == e.answer.count &&
+               a.distance == e.answer.distance && a.second == e.answer.second && same_octets(e.out, out, a.wrote);
     printf("%-46s ", what);
     if (a.number == 0 || a.number == 8) {
         printf("COUNT %u", (unsigned)a.count);
+        if (a.connection > 0) printf(" of connection %u", a.connection);
         if (a.distance > 0) printf(", distance %u", (unsigned)a.distance);
         if (a.header_type > 0) printf(", header type %u", a.header_type);
         if (a.header_type == SAIHDELU_SERVICE_REQUEST) printf(", identifier %u", a.octet);
@@ -74,6 +76,12 @@ static expected opened(uint32_t count, uint32_t distance, uint8_t header_type, c
     e.answer.count = count;
     e.answer.distance = distance;
     e.answer.header_type = header_type;
+    return e;
+}
+
+static expected opened_on(uint8_t connection, uint32_t count, uint32_t distance, uint8_t header_type, const char *out) {
+    expected e = opened(count, distance, header_type, out);
+    e.answer.connection = connection;
     return e;
 }
 
@@ -145,6 +153,54 @@ static void five(const uint8_t ik[16], const uint8_t ck[16]) {
     check_number("a refusal uses no COUNT; the core's next is", saihdelu_next_count(core.context, SAIHDELU_DOWNLINK, SAIHDELU_3GPP), 3);
 }
 
+static void handover(const uint8_t ik[16], const uint8_t ck[16]) {
+    const uint8_t status[] = {0x7e, 0x00, 0x64, 0x16};
+    uint8_t slow[16], fast[16], after[16], plain[16], inside[16];
+    saihdelu_left core = saihdelu_new(SAIHDELU_AES, SAIHDELU_AES, ik, ck);
+    saihdelu_left handset = saihdelu_new(SAIHDELU_AES, SAIHDELU_AES, ik, ck);
+    saihdelu_answer a;
+    size_t n;
+
+    /* Octets and answers below are those of differential/model.py, over the AES of OpenSSL. */
+    puts("5GS: a handover from 3GPP to non-3GPP access");
+    check_change("contexts for the core", core.answer, 0);
+    handset = saihdelu_set_window(handset.context, 8);
+    check_change("and the handset, with a window of 8", handset.answer, 0);
+    a = saihdelu_seal_in_place(&core.context, SAIHDELU_INTEGRITY_CIPHERED, SAIHDELU_DOWNLINK, SAIHDELU_3GPP,
+                               status, sizeof status, slow, sizeof slow);
+    check("the core seals on 3GPP access", a, slow, sealed(0, "7e02da77f40f00ce974f6f"));
+    n = a.wrote;
+    a = saihdelu_seal_in_place(&core.context, SAIHDELU_INTEGRITY_CIPHERED, SAIHDELU_DOWNLINK, SAIHDELU_3GPP,
+                               status, sizeof status, fast, sizeof fast);
+    check("and once more", a, fast, sealed(1, "7e028a80fd310101c893cf"));
+    a = saihdelu_open_in_place(&handset.context, SAIHDELU_DOWNLINK, SAIHDELU_3GPP, fast, a.wrote,
+                               plain, sizeof plain, inside, sizeof inside);
+    check("the second message arrives", a, plain, opened(1, 1, 2, "7e006416"));
+
+    /* The handset moves; what the core sends from here on, it seals on non-3GPP access, with COUNTs of its own. */
+    a = saihdelu_seal_in_place(&core.context, SAIHDELU_INTEGRITY_CIPHERED, SAIHDELU_DOWNLINK, SAIHDELU_NON_3GPP,
+                               status, sizeof status, after, sizeof after);
+    check("the core seals on non-3GPP access", a, after, sealed(0, "7e023d3789480085faebd0"));
+    a = saihdelu_open_across_in_place(&handset.context, SAIHDELU_DOWNLINK, SAIHDELU_NON_3GPP, after, a.wrote,
+                                      plain, sizeof plain, inside, sizeof inside);
+    check("it arrives on non-3GPP access", a, plain, opened_on(SAIHDELU_NON_3GPP, 0, 0, 2, "7e006416"));
+
+    /* The first message was under way on 3GPP access when the handset moved, and comes by the new one. */
+    handset = saihdelu_open(handset.context, SAIHDELU_DOWNLINK, SAIHDELU_NON_3GPP, slow, n, plain, sizeof plain, inside, sizeof inside);
+    check("the first one too; open does not take it", handset.answer, plain, refused(7));
+    handset = saihdelu_open_across(handset.context, SAIHDELU_DOWNLINK, SAIHDELU_NON_3GPP, slow, n,
+                                   plain, sizeof plain, inside, sizeof inside);
+    check("open_across takes it on the old connection", handset.answer, plain, opened_on(SAIHDELU_3GPP, 0, 1, 2, "7e006416"));
+    handset = saihdelu_open_across(handset.context, SAIHDELU_DOWNLINK, SAIHDELU_NON_3GPP, slow, n,
+                                   plain, sizeof plain, inside, sizeof inside);
+    check("and not again", handset.answer, plain, refused(7));
+    handset = saihdelu_open_across(handset.context, SAIHDELU_DOWNLINK, SAIHDELU_3GPP, slow, n,
+                                   plain, sizeof plain, inside, sizeof inside);
+    check("nor on 3GPP access", handset.answer, plain, refused(7));
+    check_number("the handset expects, on 3GPP access, COUNT", saihdelu_next_count(handset.context, SAIHDELU_DOWNLINK, SAIHDELU_3GPP), 2);
+    check_number("and on non-3GPP access", saihdelu_next_count(handset.context, SAIHDELU_DOWNLINK, SAIHDELU_NON_3GPP), 1);
+}
+
 static void eps(const uint8_t ik[16], const uint8_t ck[16]) {
     const uint8_t update[] = {0x07, 0x48, 0xaa}; /* TRACKING AREA UPDATE REQUEST, as far as it goes */
     uint8_t message[16], request[2][4], empty[16], plain[16];
@@ -196,6 +252,7 @@ int main(void) {
         return 1;
     }
     five(ik, ck);
+    handover(ik, ck);
     eps(ik, ck);
     puts(wrong ? "an answer is not what was expected" : "every answer is what was expected");
     return wrong;

@@ -74,7 +74,7 @@ typedef struct {
     uint8_t carried;     /* with refusal 8: why the content is refused, 9, 10, 11, 12 or 18 */
     uint8_t header_type; /* of an opened message, 1 to 4; 12 for a SERVICE REQUEST of EPS */
     uint8_t octet;       /* the N1-to-S1 container that was made; the identifier of an opened SERVICE REQUEST of EPS */
-    uint8_t connection;  /* 0 in every call declared here; kept for one that answers on which connection a message was taken */
+    uint8_t connection;  /* of saihdelu_open_across: the connection that the message was taken on, 1 or 2 */
     uint32_t count;      /* the COUNT that was used */
     uint32_t distance;   /* of a received COUNT: how many were skipped before it, or how far below the highest used it lies */
     size_t wrote;        /* octets written to the output */
@@ -156,6 +156,16 @@ saihdelu_left saihdelu_open(saihdelu_context context, uint8_t direction, uint8_t
                             const uint8_t *message, size_t message_len, uint8_t *out, size_t out_len,
                             uint8_t *out2, size_t out2_len);
 
+/* Opens a message that may have been sealed on the other connection than the one that it arrives on, as one that is late after a
+   handover between accesses. Where saihdelu_open on `connection`, on which it arrived, would refuse with 6 or 7, the other
+   connection's record of this direction is tried. Answers what saihdelu_open answers, and in `connection` the one that it was taken
+   on, also with 8; count and distance are of that one's record, and no other record changes. Under integrity code 0 no code tells
+   the connections apart, and it is saihdelu_open on `connection`. It makes up to four codes, saihdelu_open up to two.
+   Refusals: those of saihdelu_open in their order; where both connections would refuse, 6 if both would with 6, else 7. */
+saihdelu_left saihdelu_open_across(saihdelu_context context, uint8_t direction, uint8_t connection,
+                                   const uint8_t *message, size_t message_len, uint8_t *out, size_t out_len,
+                                   uint8_t *out2, size_t out2_len);
+
 /* Seals a plain EPS ATTACH REQUEST (07 41) or TRACKING AREA UPDATE REQUEST (07 48) with the 5GS context, uplink, 3GPP access.
    Writes inner_len + 6 octets, answers count and wrote. Refusals: the context's own; 12, 4, 5, 6. */
 saihdelu_left saihdelu_seal_eps_message(saihdelu_context context,
@@ -199,6 +209,9 @@ saihdelu_answer saihdelu_seal_in_place(saihdelu_context *context, uint8_t header
 saihdelu_answer saihdelu_open_in_place(saihdelu_context *context, uint8_t direction, uint8_t connection,
                                        const uint8_t *message, size_t message_len, uint8_t *out, size_t out_len,
                                        uint8_t *out2, size_t out2_len);
+saihdelu_answer saihdelu_open_across_in_place(saihdelu_context *context, uint8_t direction, uint8_t connection,
+                                              const uint8_t *message, size_t message_len, uint8_t *out, size_t out_len,
+                                              uint8_t *out2, size_t out2_len);
 
 /* ---- EPS: a context of its own, with two records; it opens no message of a 5GS context, nor the other way round ---- */
 

@@ -4,7 +4,10 @@ ghost use mathlib.Core.Path.{_≡_};
 ghost use mathlib.Core.List.{[]};
 ghost use Rattle.nas_5gs.specs.Leaves.{leaves, changeValues, useValues, openValues, epsOpenValues, octetValues, verifyValues};
 ghost use Rattle.promises.specs.Calls.{setWindow, seal5gs, sealOpaque, sealInitial, open5gs, sealEps, openEps, makeN1ToS1, verifyN1ToS1, makeS1ToN1, verifyS1ToN1, reselect, create, restore, nextCount, window, integrity, ciphering, outcome, gives, second, makes, reads};
+ghost use Rattle.handover.specs.Across.{acrossOf};
+ghost use Rattle.promises_handover.specs.Handover.{across, connectionOf, besideOf, anyGives};
 ghost use Rattle.mixture.specs.Mixture.{windowIn, sealIn, openIn, changes, changesSecond};
+use handover::AcrossDone;
 use nas_5gs::ChangeAnswer;
 use nas_5gs::ChangeDone;
 use nas_5gs::Connection;
@@ -200,4 +203,18 @@ pub fn open_in_place(
     ensures { λ r. ⌜ (outcome openValues (leaves r (now (context .exit)) (now (out .exit))) ≡ changes (openIn direction connection (now (message .entry)) (now (out .entry)) (now (out2 .entry))) (now (context .entry))) × (now (out2 .exit) ≡ changesSecond (openIn direction connection (now (message .entry)) (now (out .entry)) (now (out2 .entry))) (now (context .entry))) ⌝ }
 {
     nas_host::open(context, direction, connection, message, out, out2)
+}
+
+pub fn open_across(
+    context: Context,
+    direction: Direction,
+    connection: Connection,
+    message: &[u8],
+    out: &mut [u8],
+    out2: &mut [u8],
+) -> AcrossDone
+    ensures first { λ r. ⌜ outcome openValues (leaves (r .answer .answer) (r .context) (now (out .exit))) ≡ anyGives (across direction connection (now (message .entry)) (now (out .entry)) (now (out2 .entry))) context ⌝ }
+    ensures beside { λ r. ⌜ (r .answer .connection ≡ connectionOf (acrossOf context direction connection (now (message .entry)) (now (out .entry)) (now (out2 .entry)))) × (now (out2 .exit) ≡ besideOf (acrossOf context direction connection (now (message .entry)) (now (out .entry)) (now (out2 .entry)))) ⌝ }
+{
+    handover::open_across(context, direction, connection, message, out, out2)
 }

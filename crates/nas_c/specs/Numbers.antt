@@ -10,7 +10,8 @@ use Rattle.nas_5gs.specs.declared.Direction.the-variants.{Uplink, Downlink}
 use Rattle.nas_5gs.specs.declared.Connection.{Connection}
 use Rattle.nas_5gs.specs.declared.Connection.the-variants.{ThreeGpp, Non3Gpp}
 use Rattle.nas_5gs.specs.Leaves.{leaves, LeavesTwo, leavesTwo, Values, refusal, changeValues, useValues, openValues, epsOpenValues, octetValues, verifyValues}
-use Rattle.nas_5gs.specs.Places.{placeOf, nextAt}
+use Rattle.nas_5gs.specs.Places.{bearerNo, placeOf, nextAt}
+use Rattle.handover.specs.Across.{LeavesAcross, leavesAcross, acrossOf}
 use Rattle.nas_5gs.specs.Changes.{newOf, restoreOf, reselectOf, windowOf}
 use Rattle.nas_5gs.specs.Seal.{sealOf, sealOpaqueOf}
 use Rattle.nas_5gs.specs.Initial.{initialOf}
@@ -35,23 +36,30 @@ directionOf d = cond (eqb d 0) Uplink Downlink
 unfoldable pub connectionOf : ℕ → Connection
 connectionOf k = cond (eqb k 1) ThreeGpp Non3Gpp
 
--- an answer's values, 0 where it has none; the two numbers that calls put in different places are given
-abbrev pub shownWith : ℕ → ℕ → Values → Shown
-shownWith carried octet v =
+-- an answer's values, 0 where it has none; the numbers that calls put in different places are given
+abbrev pub shownBy : ℕ → ℕ → ℕ → Values → Shown
+shownBy carried octet connection v =
     record {
       number = v .number;
       carried = carried;
       «header_type» = v .header;
       octet = octet;
-      connection = 0;
+      connection = connection;
       count = v .count;
       distance = v .distance;
       wrote = v .wrote;
       second = v .second;
     }
 
+abbrev pub shownWith : ℕ → ℕ → Values → Shown
+shownWith carried octet v = shownBy carried octet 0 v
+
 abbrev pub shown : Values → Shown
 shown v = shownWith (v .carried) (v .octet) v
+
+-- with the connection that a COUNT was used on
+abbrev pub shownOn : Connection → Values → Shown
+shownOn k v = shownBy (v .carried) (v .octet) (cond (v .uses) (bearerNo k) 0) v
 
 -- a number that is no direction or connection: 19, before all else
 abbrev pub noSuchWay : Shown
@@ -63,6 +71,9 @@ numbers shows values (leaves a x out) = leaves (shows (values a)) x out
 
 abbrev pub numbersTwo : {A : Type 0} → (A → Values) → LeavesTwo A → LeavesTwo Shown
 numbersTwo values (leavesTwo a x out second) = leavesTwo (shown (values a)) x out second
+
+abbrev pub numbersAcross : LeavesAcross → LeavesTwo Shown
+numbersAcross (leavesAcross k a x out second) = leavesTwo (shownOn k (openValues a)) x out second
 
 -- a call on one direction of one connection, or what stands for it if there is no such way
 abbrev pub wayOr : {R : Type 0} → ℕ → ℕ → R → (Direction → Connection → R) → R
@@ -103,6 +114,10 @@ initialNumbers x k whole out =
 unfoldable pub openNumbers : Context → ℕ → ℕ → List ℕ → List ℕ → List ℕ → LeavesTwo Shown
 openNumbers x d k m out second =
     wayOr d k (leavesTwo noSuchWay x out second) (λ d k. numbersTwo openValues (openOf x d k m out second))
+
+unfoldable pub acrossNumbers : Context → ℕ → ℕ → List ℕ → List ℕ → List ℕ → LeavesTwo Shown
+acrossNumbers x d k m out second =
+    wayOr d k (leavesTwo noSuchWay x out second) (λ d k. numbersAcross (acrossOf x d k m out second))
 
 -- messages and containers of a UE that goes between 5GS and EPS, of fixed direction and connection
 unfoldable pub sealEpsNumbers : Context → List ℕ → List ℕ → Leaves Context Shown

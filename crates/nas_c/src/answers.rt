@@ -1,11 +1,14 @@
 // Answers as their values, with the context that is handed back.
 ghost use mathlib.Core.Path.{_≡_};
 ghost use Rattle.nas_5gs.specs.Leaves.{changeValues, useValues, openValues, epsOpenValues, octetValues, verifyValues};
-ghost use Rattle.nas_c.specs.Numbers.{shown, noSuchWay};
+ghost use Rattle.nas_5gs.specs.Places.{bearerNo};
+ghost use Rattle.nas_c.specs.Numbers.{shown, shownOn, noSuchWay};
 use crate::Left;
 use crate::Shown;
+use handover::AcrossDone;
 use nas_5gs::ChangeAnswer;
 use nas_5gs::ChangeDone;
+use nas_5gs::Connection;
 use nas_5gs::Context;
 use nas_5gs::EpsOpenAnswer;
 use nas_5gs::EpsOpenDone;
@@ -158,6 +161,60 @@ pub fn show_open(done: OpenDone) -> Left
             answer: content(number, header_type, count, distance, wrote),
             context,
         },
+    }
+}
+
+fn digit_of(connection: Connection) -> u8
+    ensures { λ r. ⌜ r ≡ bearerNo connection ⌝ }
+{
+    match connection {
+        Connection::ThreeGpp => 1,
+        Connection::Non3Gpp => 2,
+    }
+}
+
+// As an open, with the connection that the message was taken on: a refusal but 8 has none.
+pub fn show_across(done: AcrossDone) -> Left
+    ensures { λ r. ⌜ r ≡ record { answer = shownOn (done .answer .connection) (openValues (done .answer .answer)); context = done .context } ⌝ }
+{
+    let context = done.context;
+    let taken = done.answer;
+    let on = taken.connection;
+    let connection = digit_of(on);
+    let answer = taken.answer;
+    match answer {
+        OpenAnswer::Refused(n) => Left {
+            answer: refusal(n),
+            context,
+        },
+        OpenAnswer::Accepted {
+            count,
+            distance,
+            wrote,
+            header_type,
+            second,
+        } => {
+            let mut shown = success(header_type, count, distance, wrote, second);
+            shown.connection = connection;
+            Left {
+                answer: shown,
+                context,
+            }
+        }
+        OpenAnswer::Content {
+            count,
+            distance,
+            wrote,
+            header_type,
+            number,
+        } => {
+            let mut shown = content(number, header_type, count, distance, wrote);
+            shown.connection = connection;
+            Left {
+                answer: shown,
+                context,
+            }
+        }
     }
 }
 

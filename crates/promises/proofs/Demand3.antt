@@ -297,7 +297,7 @@ reselected-begins x r =
       shut = shut-all size (recordAt b) made refl refl;
     }
 
-beginning : (x : Context) → Begins x → Beginning x
+pub beginning : (x : Context) → Begins x → Beginning x
 beginning x (fresh f) = started x f .beginning
 beginning x (restored r) = restored-begins x r
 beginning x (reselected r) = reselected-begins x r

@@ -24,7 +24,7 @@ fn lent(n: usize) -> Vec<u8> {
 fn compare(what: &str, answer: &sys::Answer, outputs: [&[u8]; 2], expected: &Outcome) {
     let shown = (answer.number, answer.carried, answer.header_type, answer.octet, answer.connection, answer.count, answer.distance);
     let e = expected;
-    assert_eq!(shown, (e.number, e.carried, e.header_type, e.octet, 0, e.count, e.distance), "{}", what);
+    assert_eq!(shown, (e.number, e.carried, e.header_type, e.octet, e.connection, e.count, e.distance), "{}", what);
     assert_eq!((answer.wrote, answer.second), (e.out.len(), e.second.len()), "{}", what);
     for (output, front) in outputs.iter().zip([&e.out, &e.second]) {
         assert!(output.starts_with(front) && output[front.len()..].iter().all(|o| *o == FILL), "{}: an output", what);
@@ -106,6 +106,18 @@ fn made(codes: (u8, u8), keys: ([u8; 16], [u8; 16]), next: &[u32]) -> Result<Ref
     }
 }
 
+// A message of another end with the same keys, on either connection, whose next COUNT lies around that of this end. A context that opens
+// what it sealed itself finds the COUNT used.
+fn of_another_end(chance: &mut Chance, this: &Reference, direction: u8, inner: &[u8]) -> Vec<u8> {
+    let mut other = this.clone();
+    let connection = 1 + chance.below(2) as u8;
+    let record = &mut other.records[place(direction, connection)];
+    record.open.clear();
+    record.next = (record.next + chance.below(8) as u32).saturating_sub(chance.below(12) as u32);
+    record.next = record.next.min((1 << 24) - 1);
+    other.seal(true, chance.pick(&[1, 2]), direction, connection, inner, usize::MAX).out
+}
+
 #[test]
 fn five_gs() {
     let mut chance = Chance::new(502);
@@ -114,18 +126,25 @@ fn five_gs() {
     let mut ours = unsafe { sys::saihdelu_new(255, 255, &zeros, &zeros) }.context;
     let mut theirs: Option<Reference> = None;
     let (mut calls, mut numbers) = (0, [0; 20]);
-    for _ in 0..60_000 {
+    // Of the calls across accesses: all, and those that were taken on the connection that the message did not arrive on.
+    let (mut across, mut elsewhere) = (0, 0);
+    for _ in 0..80_000 {
         let (d, c, header) = (direction(&mut chance), connection(&mut chance), chance.pick(&[0, 1, 2, 2, 2, 1, 3, 4, 5, 18, 255]));
         let octets = inner(&mut chance);
         let from = sealed.len().saturating_sub(6);
-        let message = chance.pick(&sealed[from..]);
+        let message = match &theirs {
+            Some(this) if chance.once_in(2) => of_another_end(&mut chance, this, d & 1, &octets),
+            _ => chance.pick(&sealed[from..]),
+        };
         let message = chance.damaged(message);
         let (o, m) = (octets.as_ptr(), octets.len());
-        let what = chance.below(24);
+        let what = chance.below(32);
         let (mut out, mut out2) = match what {
             0..=5 => (lent(room(&mut chance, octets.len() + 7)), lent(0)),
             6 | 7 => (lent(room(&mut chance, 2 * octets.len() + 9)), lent(0)),
-            8..=14 => (lent(room(&mut chance, message.len().saturating_sub(7))), lent(room(&mut chance, message.len().saturating_sub(7)))),
+            8..=14 | 24..=31 => {
+                (lent(room(&mut chance, message.len().saturating_sub(7))), lent(room(&mut chance, message.len().saturating_sub(7))))
+            }
             15 => (lent(room(&mut chance, octets.len() + 6)), lent(0)),
             16 => (lent(room(&mut chance, message.len().saturating_sub(6))), lent(0)),
             _ => (lent(room(&mut chance, 8)), lent(0)),
@@ -166,6 +185,18 @@ fn five_gs() {
                     };
                     let expected = if no_way(d, c) { refusal(19) } else { on(&mut theirs, |r| r.open(d, c, &message, n, n2)) };
                     ("open", answer, expected)
+                }
+                24..=31 => {
+                    let (message_octets, length) = (message.as_ptr(), message.len());
+                    let answer = if in_place {
+                        sys::saihdelu_open_across_in_place(&mut ours, d, c, message_octets, length, p, n, p2, n2)
+                    } else {
+                        keep(sys::saihdelu_open_across(ours, d, c, message_octets, length, p, n, p2, n2), &mut ours)
+                    };
+                    let expected = if no_way(d, c) { refusal(19) } else { on(&mut theirs, |r| r.open_across(d, c, &message, n, n2)) };
+                    across += 1;
+                    elsewhere += usize::from(expected.connection != 0 && expected.connection != c);
+                    ("open across", answer, expected)
                 }
                 15 => {
                     let answer = keep(sys::saihdelu_seal_eps_message(ours, o, m, p, n), &mut ours);
@@ -248,6 +279,8 @@ fn five_gs() {
         }
     }
     println!("the 5GS functions with any numbers: {} calls compared; by answer {:?}", calls, numbers);
+    println!("{} of these calls across accesses, {} messages taken on the other one", across, elsewhere);
+    assert!(across >= 15_000 && elsewhere >= 200);
     for number in [0, 1, 2, 3, 5, 6, 7, 8, 9, 10, 11, 12, 13, 14, 15, 16, 18, 19] {
         assert!(numbers[number] > 0, "answer {} was not met", number);
     }

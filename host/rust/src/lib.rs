@@ -29,6 +29,7 @@
 //!   the COUNT that they used.
 //! - Errors are the numbered refusals of the library: [`NasError`].
 //! - Null integrity with a cipher is taken. Keys are not wiped.
+//! - `unprotect_raw_across_access` is this library's own: it opens what was sealed on the other access, too.
 //!
 //! Contexts have no `Clone`: whoever went on with an old copy would use its COUNTs and its keystream again.
 
@@ -176,6 +177,8 @@ pub enum NasError {
         count: NasCount,
         /// How many COUNTs were skipped before it, or how far below the highest used one it lies.
         distance: u32,
+        /// From [`nas_5gs::NasSecurityContext::unprotect_raw_across_access`]: the access that it was taken on. Else `None`.
+        connection: Option<nas_5gs::NasConnection>,
     },
     /// 9: not a known message.
     UnknownMessage,
@@ -338,6 +341,7 @@ fn opened(answer: sys::Answer, plain: &mut Vec<u8>) -> Result<sys::Answer> {
                 security_header_type: answer.header_type,
                 count: NasCount(answer.count),
                 distance: answer.distance,
+                connection: nas_5gs::NasConnection::answered(answer.connection),
             })
         }
         number => Err(NasError::of(number)),

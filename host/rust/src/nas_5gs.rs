@@ -13,6 +13,17 @@ pub enum NasConnection {
     Non3Gpp = 2,
 }
 
+impl NasConnection {
+    // The one that an answer has; 0 is none.
+    pub(crate) fn answered(number: u8) -> Option<NasConnection> {
+        match number {
+            1 => Some(NasConnection::ThreeGpp),
+            2 => Some(NasConnection::Non3Gpp),
+            _ => None,
+        }
+    }
+}
+
 algorithms!(
     IntegrityAlgorithm, "The integrity algorithm (TS 24.501 9.11.3.34). Codes 4 to 7 are reserved and refused with 13.", "nas_5gs",
     NIA0 = 0 "Null: no code is made or asked for, and no message is refused as repeated.",
@@ -432,10 +443,66 @@ impl NasSecurityContext {
     /// # Ok::<(), NasError>(())
     /// ```
     pub fn unprotect_raw_for_access(&mut self, data: &[u8], direction: Direction, connection: NasConnection) -> Result<Verified> {
+        Ok(self.open_by(sys::saihdelu_open_in_place, data, direction, connection)?.0)
+    }
+
+    /// Opens a sealed message that may have been sealed on the other access than the one that it arrives on, as one that is late after a
+    /// handover between accesses: what [`Self::unprotect_raw_for_access`] answers, and the access that it was taken on.
+    ///
+    /// It opens on the access that the message arrived on; where that would refuse with 6 or 7, it tries the record of the other one. A
+    /// COUNT is used in one record or in none. Under null integrity no code tells the accesses apart, and the other one is not tried.
+    /// It may be called for every message; it costs at most four codes instead of two, and gives a forged message two tries more.
+    ///
+    /// Refused, in this order: 1, 2, 3, 1, 4, 6 or 7, 8. Where both accesses would refuse, 6 if both would with 6, else 7.
+    ///
+    /// ```
+    /// use saihdelu::nas_5gs::*;
+    ///
+    /// let (int, enc) = (KNasInt::new(&[1; 16]), KNasEnc::new(&[2; 16]));
+    /// let (nia, nea) = (IntegrityAlgorithm::NIA2, CipheringAlgorithm::NEA2);
+    /// let mut core = NasSecurityContext::from_fresh_keys(&int, &enc, nia, nea)?;
+    /// let mut handset = NasSecurityContext::from_fresh_keys(&int, &enc, nia, nea)?;
+    /// handset.set_replay_window(8)?;
+    ///
+    /// let header = Nas5gsSecurityHeaderType::IntegrityProtectedAndCiphered;
+    /// let (down, old, new) = (Direction::Downlink, NasConnection::ThreeGpp, NasConnection::Non3Gpp);
+    /// let slow = core.protect_bytes_for_access([0x7e, 0x00, 0x64, 0x16], header, down, old)?;
+    /// let fast = core.protect_bytes_for_access([0x7e, 0x00, 0x64, 0x16], header, down, old)?;
+    /// handset.unprotect_raw_for_access(&fast, down, old)?;
+    ///
+    /// // The handset moves to non-3GPP access, and the message that is still under way comes by it
+    /// assert_eq!(handset.unprotect_raw_for_access(&slow, down, new), Err(NasError::IntegrityCheckFailed));
+    /// let (opened, taken_on) = handset.unprotect_raw_across_access(&slow, down, new)?;
+    /// assert_eq!((opened.message, opened.count.get(), taken_on), (vec![0x7e, 0x00, 0x64, 0x16], 0, old));
+    ///
+    /// // Once, whichever access it comes by
+    /// for arrives_on in [old, new] {
+    ///     assert_eq!(handset.unprotect_raw_across_access(&slow, down, arrives_on), Err(NasError::IntegrityCheckFailed));
+    /// }
+    /// # Ok::<(), NasError>(())
+    /// ```
+    pub fn unprotect_raw_across_access(
+        &mut self,
+        data: &[u8],
+        direction: Direction,
+        arrived_on: NasConnection,
+    ) -> Result<(Verified, NasConnection)> {
+        let (verified, connection) = self.open_by(sys::saihdelu_open_across_in_place, data, direction, arrived_on)?;
+        Ok((verified, connection.expect("a message that was taken has a connection")))
+    }
+
+    // Both opens differ in the function alone; that of one access answers no connection.
+    fn open_by(
+        &mut self,
+        open: sys::OpenInPlace,
+        data: &[u8],
+        direction: Direction,
+        connection: NasConnection,
+    ) -> Result<(Verified, Option<NasConnection>)> {
         let room = data.len().saturating_sub(7);
         let (mut out, mut second) = (vec![0; room], vec![0; room]);
         let answer = unsafe {
-            sys::saihdelu_open_in_place(
+            open(
                 &mut self.context,
                 direction as u8,
                 connection as u8,
@@ -450,13 +517,14 @@ impl NasSecurityContext {
         let answer = opened(answer, &mut out)?;
         second.truncate(answer.second);
         let (message, sent) = if answer.second > 0 { (second, Some(out)) } else { (out, None) };
-        Ok(Verified {
+        let verified = Verified {
             message,
             security_header_type: HeaderType::from_number(answer.header_type).expect("an opened message has a header type from 1 to 4"),
             count: NasCount(answer.count),
             distance: answer.distance,
             sent,
-        })
+        };
+        Ok((verified, NasConnection::answered(answer.connection)))
     }
 
     /// Seals an EPS ATTACH REQUEST (07 41) or TRACKING AREA UPDATE REQUEST (07 48) of a handset that goes over to EPS; uplink record of

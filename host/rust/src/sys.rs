@@ -44,6 +44,9 @@ pub struct EpsLeft {
 
 pub type Key = [u8; 16];
 
+/// Both opens in place have this form.
+pub type OpenInPlace = unsafe extern "C" fn(*mut Context, u8, u8, *const u8, usize, *mut u8, usize, *mut u8, usize) -> Answer;
+
 // Slices are no C types: pointer and length are written out.
 extern "C" {
     pub fn saihdelu_context_size() -> usize;
@@ -110,6 +113,29 @@ extern "C" {
         out2_len: usize,
     ) -> Left;
     pub fn saihdelu_open_in_place(
+        context: *mut Context,
+        direction: u8,
+        connection: u8,
+        message: *const u8,
+        message_len: usize,
+        out: *mut u8,
+        out_len: usize,
+        out2: *mut u8,
+        out2_len: usize,
+    ) -> Answer;
+    #[cfg(test)]
+    pub fn saihdelu_open_across(
+        context: Context,
+        direction: u8,
+        connection: u8,
+        message: *const u8,
+        message_len: usize,
+        out: *mut u8,
+        out_len: usize,
+        out2: *mut u8,
+        out2_len: usize,
+    ) -> Left;
+    pub fn saihdelu_open_across_in_place(
         context: *mut Context,
         direction: u8,
         connection: u8,

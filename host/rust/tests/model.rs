@@ -71,7 +71,10 @@ impl Session {
         };
         let (seals, opens) = match what {
             "EPS" => (count("eseal", "ok") + count("esr", "ok"), count("eopen", "ok")),
-            _ => (count("seal", "ok") + count("opaque", "ok") + count("initial", "ok"), count("open", "ok") + count("open", "no 8")),
+            _ => {
+                let opens = ["open", "across"].iter().map(|call| count(call, "ok") + count(call, "no 8")).sum();
+                (count("seal", "ok") + count("opaque", "ok") + count("initial", "ok"), opens)
+            }
         };
         println!("{} against the model: {} seals, {} opens taken, {} lines compared, all codes", what, seals, opens, self.lines.len());
         assert!(seals >= 1500 && opens >= 1000);
@@ -151,7 +154,9 @@ fn five_gs() {
                 _ if !radio.is_empty() => {
                     let i = radio.len() - 1 - chance.below(radio.len().min(6));
                     let (by, connection, octets) = if chance.once_in(4) { radio[i].clone() } else { radio.remove(i) };
-                    session.say(format!("open {} {} {} ffff {}", 1 - by, by, connection, hex(&chance.damaged(octets))));
+                    // Half of them across connections, on either of which they arrive.
+                    let (call, connection) = if chance.once_in(2) { ("across", chance.pick(&[1, 2])) } else { ("open", connection) };
+                    session.say(format!("{} {} {} {} ffff {}", call, 1 - by, by, connection, hex(&chance.damaged(octets))));
                 }
                 _ => (),
             }
@@ -159,6 +164,16 @@ fn five_gs() {
     }
     let model = python(&MODEL, &session.lines);
     session.compare("5GS", &model);
+    // The connection that a message arrived on is the fourth word of its line; the one that it was taken on, the second of its answer.
+    let across: Vec<_> = session.lines.iter().zip(&session.answers).filter(|(line, _)| line.starts_with("across")).collect();
+    let taken_on = |connection: &str, answer: &str| answer.starts_with(&format!("ok {} ", connection));
+    let elsewhere = across.iter().filter(|(line, answer)| {
+        let arrived_on = line.split(' ').nth(3).unwrap();
+        taken_on(if arrived_on == "1" { "2" } else { "1" }, answer)
+    });
+    let elsewhere = elsewhere.count();
+    println!("5GS against the model, across accesses: {} calls, {} accepted on the other access, all codes", across.len(), elsewhere);
+    assert!(across.len() >= 800 && elsewhere >= 100);
 }
 
 #[test]

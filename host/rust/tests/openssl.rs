@@ -7,7 +7,7 @@ mod reference;
 use chance::Chance;
 use reference::{place, Outcome, Reference};
 use saihdelu::{nas_5gs, nas_eps, Direction, KNasEnc, KNasInt, NasCount, NasError};
-use std::collections::BTreeMap;
+use std::collections::{BTreeMap, BTreeSet};
 
 const BOTH: [Direction; 2] = [Direction::Uplink, Direction::Downlink];
 const CONNECTIONS: [nas_5gs::NasConnection; 2] = [nas_5gs::NasConnection::ThreeGpp, nas_5gs::NasConnection::Non3Gpp];
@@ -41,10 +41,11 @@ impl Seen {
 
 fn refused(error: NasError) -> Outcome {
     match error {
-        NasError::AuthenticMessageRefused { error, plain, security_header_type, count, distance } => Outcome {
+        NasError::AuthenticMessageRefused { error, plain, security_header_type, count, distance, connection } => Outcome {
             number: 8,
             carried: error.number(),
             header_type: security_header_type,
+            connection: connection.map_or(0, |c| c as u8),
             count: count.get(),
             distance,
             out: plain,
@@ -71,6 +72,13 @@ fn opened(result: Result<nas_5gs::Verified, NasError>) -> Outcome {
             let header_type = verified.security_header_type as u8;
             Outcome { header_type, count: verified.count.get(), distance: verified.distance, out, second, ..Outcome::default() }
         }
+        Err(error) => refused(error),
+    }
+}
+
+fn opened_across(result: Result<(nas_5gs::Verified, nas_5gs::NasConnection), NasError>) -> Outcome {
+    match result {
+        Ok((verified, connection)) => Outcome { connection: connection as u8, ..opened(Ok(verified)) },
         Err(error) => refused(error),
     }
 }
@@ -168,6 +176,18 @@ struct Sealed {
     octets: Vec<u8>,
     direction: Direction,
     connection: nas_5gs::NasConnection,
+    taken: bool,
+}
+
+/// What the numbers of an answer do not tell: the end and the place whose COUNT a call would use, and of an arrived message whether it
+/// was taken before, whether it was taken late, and whether on the connection that it did not arrive on.
+#[derive(Default)]
+struct How {
+    end: usize,
+    place: usize,
+    again: bool,
+    late: bool,
+    elsewhere: bool,
 }
 
 /// One link: both ends by this crate and by the reference, and what is under way.
@@ -218,13 +238,15 @@ impl Link {
         link
     }
 
-    /// One call: its name, what it answered, and whether it took a message late.
-    fn step(&mut self, chance: &mut Chance) -> (&'static str, Outcome, bool) {
+    /// One call: its name, what it answered, and how. With `handover`, most messages arrive on either connection, whichever sealed them,
+    /// and are opened across connections.
+    fn step(&mut self, chance: &mut Chance, handover: bool) -> (&'static str, Outcome, How) {
         let mut end = chance.below(2);
-        let mut late = false;
+        let mut how = How::default();
+        let mut stays = None;
         // End 0 is mostly the handset. A row of COUNTs that both ends seal in is soon of no use to either.
         let direction = BOTH[if chance.once_in(16) { 1 - end } else { end }];
-        let connection = if chance.once_in(4) { CONNECTIONS[1] } else { CONNECTIONS[0] };
+        let connection = if chance.once_in(if handover { 2 } else { 4 }) { CONNECTIONS[1] } else { CONNECTIONS[0] };
         let (d, c) = (direction as u8, connection as u8);
         let header = nas_5gs::Nas5gsSecurityHeaderType::from_number(chance.pick(&[2, 2, 2, 1, 1, 3, 4, 0])).unwrap();
         let far = usize::MAX; // this crate lends what is needed
@@ -234,10 +256,17 @@ impl Link {
             // Mostly one of those sent last, so that rows of COUNTs go on, and at the other end. One in four may be repeated.
             let back = chance.pick(&[1, 2, 4, 8, 40]).min(self.radio.len());
             let i = self.radio.len() - 1 - chance.below(back);
-            let sealed = if chance.once_in(4) { self.radio[i].clone() } else { self.radio.remove(i) };
+            let sealed = if chance.once_in(4) {
+                stays = Some(i);
+                self.radio[i].clone()
+            } else {
+                self.radio.remove(i)
+            };
             end = if chance.once_in(20) { sealed.by } else { 1 - sealed.by };
+            how.again = sealed.taken && end != sealed.by;
             arrives = Some(sealed);
         }
+        (how.end, how.place) = (end, place(d, c));
         let (ours, theirs) = (&mut self.ours[end], &mut self.theirs[end]);
         let (call, our, their) = match what {
             0..=9 => {
@@ -256,19 +285,39 @@ impl Link {
                 let whole = initial(chance);
                 let before = ours.nas_count(Direction::Uplink, connection);
                 let our = sent(before, ours.protect_initial_for_access(&whole, connection));
+                how.place = place(0, c);
                 ("initial", our, theirs.initial(c, &whole, far))
+            }
+            17..=31 if handover && arrives.is_some() && !chance.once_in(4) => {
+                let sealed = arrives.unwrap();
+                let direction = if chance.once_in(40) { direction } else { sealed.direction };
+                let connection = chance.pick(&CONNECTIONS);
+                let mut octets = chance.damaged(sealed.octets);
+                if chance.once_in(1000) {
+                    octets.resize(65536 + 7, 0);
+                }
+                let before = theirs.records.clone();
+                let our = opened_across(ours.unprotect_raw_across_access(&octets, direction, connection));
+                if our.connection != 0 {
+                    how.place = place(direction as u8, our.connection);
+                    how.late = theirs.integrity != 0 && our.count < before[how.place].next;
+                    how.elsewhere = our.connection != connection as u8;
+                }
+                ("open across", our, theirs.open_across(direction as u8, connection as u8, &octets, far, far))
             }
             17..=31 if arrives.is_some() => {
                 let sealed = arrives.unwrap();
                 let wrong_way = chance.once_in(40);
                 let (direction, connection) = if wrong_way { (direction, connection) } else { (sealed.direction, sealed.connection) };
                 let octets = chance.damaged(sealed.octets.clone());
-                let before = theirs.records[place(direction as u8, connection as u8)].next;
+                how.place = place(direction as u8, connection as u8);
+                let before = theirs.records[how.place].next;
                 let our = opened(ours.unprotect_raw_for_access(&octets, direction, connection));
-                late = (our.number == 0 || our.number == 8) && theirs.integrity != 0 && our.count < before;
+                how.late = (our.number == 0 || our.number == 8) && theirs.integrity != 0 && our.count < before;
                 ("open", our, theirs.open(direction as u8, connection as u8, &octets, far, far))
             }
             32 => {
+                how.place = 0;
                 let inner =
                     if chance.once_in(4) { plain(chance) } else { [&[0x07, chance.pick(&[0x41, 0x48])], &plain(chance)[..]].concat() };
                 let our = match ours.protect_eps_message(&inner) {
@@ -278,6 +327,7 @@ impl Link {
                 ("seal EPS message", our, theirs.seal_eps_message(&inner, far))
             }
             33 if !self.eps_messages.is_empty() => {
+                how.place = 0;
                 let octets = chance.pick(&self.eps_messages);
                 let octets = chance.damaged(octets);
                 let our = match ours.unprotect_eps_message(&octets) {
@@ -287,6 +337,7 @@ impl Link {
                 ("open EPS message", our, theirs.open_eps_message(&octets, far))
             }
             34 => {
+                how.place = 1;
                 let our = match ours.n1_to_s1_container() {
                     Ok((octet, count)) => Outcome { octet, count: count.get(), ..Outcome::default() },
                     Err(error) => refused(error),
@@ -294,6 +345,7 @@ impl Link {
                 ("N1 to S1", our, theirs.n1_to_s1())
             }
             35 => {
+                how.place = 1;
                 let octet = chance.octet();
                 let our = match ours.verify_n1_to_s1_container(octet) {
                     Ok((count, distance)) => Outcome { count: count.get(), distance, ..Outcome::default() },
@@ -302,6 +354,7 @@ impl Link {
                 ("verify N1 to S1", our, theirs.verify_n1_to_s1(octet))
             }
             36 => {
+                how.place = 1;
                 let (ncc, ngksi) = (chance.below(9) as u8, chance.below(17) as u8);
                 let our = match ours.s1_to_n1_container(ncc, ngksi) {
                     Ok((value, count)) => Outcome { count: count.get(), out: value.to_vec(), ..Outcome::default() },
@@ -310,6 +363,7 @@ impl Link {
                 ("S1 to N1", our, theirs.s1_to_n1(ncc, ngksi, far))
             }
             37 if !self.containers.is_empty() => {
+                how.place = 1;
                 let mut value = chance.pick(&self.containers);
                 value = chance.damaged(value);
                 if chance.once_in(100) {
@@ -350,14 +404,21 @@ impl Link {
         assert_eq!(our, their, "{}", call);
         if our.number == 0 {
             match call {
-                "seal" | "seal opaque" => self.radio.push(Sealed { by: end, octets: our.out.clone(), direction, connection }),
-                "initial" => self.radio.push(Sealed { by: end, octets: our.out.clone(), direction: Direction::Uplink, connection }),
+                "seal" | "seal opaque" => {
+                    self.radio.push(Sealed { by: end, octets: our.out.clone(), direction, connection, taken: false });
+                }
+                "initial" => {
+                    self.radio.push(Sealed { by: end, octets: our.out.clone(), direction: Direction::Uplink, connection, taken: false });
+                }
                 "seal EPS message" => self.eps_messages.push(our.out.clone()),
                 "S1 to N1" => self.containers.push(our.out.clone()),
                 _ => (),
             }
         }
-        (call, our, late)
+        if let Some(i) = stays {
+            self.radio[i].taken |= (our.number == 0 || our.number == 8) && end != self.radio[i].by;
+        }
+        (call, our, how)
     }
 
     fn compare_states(&self) {
@@ -382,9 +443,9 @@ fn five_gs() {
     for _ in 0..1500 {
         let mut link = Link::new(&mut chance);
         for _ in 0..120 {
-            let (call, outcome, was_late) = link.step(&mut chance);
+            let (call, outcome, how) = link.step(&mut chance, false);
             seen.count(call, &outcome);
-            late += usize::from(was_late);
+            late += usize::from(how.late);
             link.compare_states();
         }
     }
@@ -401,6 +462,55 @@ fn five_gs() {
     assert!(seals >= 20_000 && opens >= 20_000 && late >= 1_000);
     for number in [1, 2, 3, 4, 6, 7, 8, 9, 10, 11, 12, 14, 15, 16, 18] {
         assert!(seen.of(|_, n| n == number) > 0, "refusal {} was not met", number);
+    }
+}
+
+/// A handover between accesses: what was sealed on one arrives on either. Beside the reference, no COUNT of a record is used twice.
+#[test]
+fn five_gs_across_accesses() {
+    let mut chance = Chance::new(504);
+    let mut seen = Seen::default();
+    let (mut here, mut elsewhere, mut elsewhere_late, mut again, mut under_null) = (0, 0, 0, 0, 0);
+    for _ in 0..1500 {
+        let mut link = Link::new(&mut chance);
+        let mut used = BTreeSet::new();
+        for _ in 0..120 {
+            let (call, outcome, how) = link.step(&mut chance, true);
+            seen.count(call, &outcome);
+            link.compare_states();
+            let null = link.theirs[how.end].integrity == 0;
+            let uses = (outcome.number == 0 || outcome.number == 8) && call != "window" && call != "reselect";
+            if null {
+                used.clear(); // under null integrity COUNTs come round again
+            } else if uses {
+                assert!(used.insert((how.end, how.place, outcome.count)), "{}: COUNT {} again", call, outcome.count);
+            }
+            if call == "open across" {
+                here += usize::from(uses && !null && !how.elsewhere);
+                elsewhere += usize::from(how.elsewhere);
+                elsewhere_late += usize::from(how.elsewhere && how.late);
+                again += usize::from(how.again && !null && outcome.number == 7);
+                under_null += usize::from(null);
+                assert!(!(null && how.elsewhere));
+            }
+        }
+    }
+    seen.say();
+    let calls = seen.of(|call, _| call == "open across");
+    println!(
+        "5GS against OpenSSL, opened across accesses: {} calls, {} taken where they arrived, {} on the other access ({} of them late), \
+         {} repeated ones refused, {} calls under null integrity; {} calls compared in all",
+        calls,
+        here,
+        elsewhere,
+        elsewhere_late,
+        again,
+        under_null,
+        seen.of(|_, _| true)
+    );
+    assert!(calls >= 20_000 && here >= 5_000 && elsewhere >= 5_000 && elsewhere_late >= 500 && again >= 500 && under_null >= 1_000);
+    for number in [0, 1, 2, 3, 4, 6, 7, 8] {
+        assert!(seen.of(|call, n| call == "open across" && n == number) > 0, "answer {} was not met", number);
     }
 }
 

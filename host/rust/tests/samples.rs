@@ -1,5 +1,5 @@
-//! The published sessions: the examples of docs/HEX-LINES.md, session/README.md, the fixed sample of the hex program, and the session of
-//! the EPS context. And the refusals' sentences, which saihdelu.h has too.
+//! The published sessions: the examples of docs/HEX-LINES.md, session/README.md and docs/HANDOVER.md, the fixed sample of the hex program,
+//! and the session of the EPS context. And the refusals' sentences, which saihdelu.h has too.
 
 mod lines;
 
@@ -37,6 +37,15 @@ fn session() {
     let (compared, not_asked) = lines::compare(pairs(&quoted));
     println!("session/README.md: {} lines compared, {} not asked", compared, not_asked);
     assert!(compared >= 33 && compared > 4 * not_asked);
+}
+
+#[test]
+fn handover() {
+    let page = read("docs/HANDOVER.md");
+    let quoted = quoted(&page);
+    let (compared, not_asked) = lines::compare(pairs(&quoted));
+    println!("docs/HANDOVER.md: {} lines compared, {} not asked", compared, not_asked);
+    assert!(compared >= 10 && not_asked == 0);
 }
 
 #[test]
@@ -103,6 +112,7 @@ fn sentences_are_the_headers() {
             security_header_type: 1,
             count: saihdelu::NasCount::ZERO,
             distance: 0,
+            connection: None,
         },
     ];
     let mut numbers: Vec<u8> = errors.iter().map(|e| e.number()).collect();

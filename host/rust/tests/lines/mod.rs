@@ -66,22 +66,27 @@ fn sent(before: Option<NasCount>, result: Result<Vec<u8>, NasError>) -> String {
     }
 }
 
+// The connection that a message was taken on, in front of the COUNT; an open of one connection does not answer it.
+fn on(connection: Option<nas_5gs::NasConnection>) -> String {
+    connection.map_or(String::new(), |connection| format!("{} ", connection as u8))
+}
+
 // A refusal of an open; `tells` is whether it answers a header type and a second output.
 fn not_opened(error: NasError, tells: bool) -> String {
     match &error {
-        NasError::AuthenticMessageRefused { error, plain, security_header_type, count, distance } => {
+        NasError::AuthenticMessageRefused { error, plain, security_header_type, count, distance, connection } => {
             let header = if tells { format!(" {:02x}", security_header_type) } else { String::new() };
             let second = if tells { " 0000 -" } else { "" };
-            let carried = error.number();
-            format!("no 8 {:08x} {:08x} {:04x}{} {} {}{}", count.get(), distance, plain.len(), header, carried, hex(plain), second)
+            let (on, carried) = (on(*connection), error.number());
+            format!("no 8 {}{:08x} {:08x} {:04x}{} {} {}{}", on, count.get(), distance, plain.len(), header, carried, hex(plain), second)
         }
         _ => format!("no {}", error.number()),
     }
 }
 
-fn opened(result: Result<nas_5gs::Verified, NasError>) -> String {
+fn opened(result: Result<(nas_5gs::Verified, Option<nas_5gs::NasConnection>), NasError>) -> String {
     match result {
-        Ok(verified) => {
+        Ok((verified, connection)) => {
             // The library's first output is the message as it was sent, its second the one inside.
             let (out, second) = match verified.sent {
                 Some(sent) => (sent, verified.message),
@@ -89,7 +94,8 @@ fn opened(result: Result<nas_5gs::Verified, NasError>) -> String {
             };
             let (count, distance, header) = (verified.count.get(), verified.distance, verified.security_header_type as u8);
             format!(
-                "ok {:08x} {:08x} {:04x} {:02x} {} {:04x} {}",
+                "ok {}{:08x} {:08x} {:04x} {:02x} {} {:04x} {}",
+                on(connection),
                 count,
                 distance,
                 out.len(),
@@ -103,9 +109,9 @@ fn opened(result: Result<nas_5gs::Verified, NasError>) -> String {
     }
 }
 
-const CALLS: [&str; 18] = [
-    "reselect", "window", "windowin", "seal", "sealin", "opaque", "initial", "open", "open2", "openin", "open2in", "epsseal", "epsopen",
-    "n1s1", "n1s1v", "s1n1", "s1n1v", "show",
+const CALLS: [&str; 20] = [
+    "reselect", "window", "windowin", "seal", "sealin", "opaque", "initial", "open", "open2", "openin", "open2in", "across", "across2",
+    "epsseal", "epsopen", "n1s1", "n1s1v", "s1n1", "s1n1v", "show",
 ];
 const EPS_CALLS: [&str; 6] = ["ereselect", "ewindow", "eseal", "esr", "eopen", "eshow"];
 
@@ -201,7 +207,12 @@ fn perform(context: &mut nas_5gs::NasSecurityContext, words: &[&str], expected: 
         }
         "open" | "open2" | "openin" | "open2in" => {
             let message = unhex(words[words.len() - 1]);
-            opened(context.unprotect_raw_for_access(&message, direction(words[2]), connection(words[3])))
+            opened(context.unprotect_raw_for_access(&message, direction(words[2]), connection(words[3])).map(|verified| (verified, None)))
+        }
+        "across" | "across2" => {
+            let message = unhex(words[words.len() - 1]);
+            let taken = context.unprotect_raw_across_access(&message, direction(words[2]), connection(words[3]));
+            opened(taken.map(|(verified, connection)| (verified, Some(connection))))
         }
         "epsseal" => {
             let before = context.nas_count(up, three_gpp);

@@ -67,6 +67,7 @@ pub struct Outcome {
     pub carried: u8,
     pub header_type: u8,
     pub octet: u8,
+    pub connection: u8,
     pub count: u32,
     pub distance: u32,
     pub out: Vec<u8>,
@@ -368,7 +369,22 @@ impl Reference {
             Ok(inside) => (0, 0, inside),
             Err(carried) => (8, carried, Vec::new()),
         };
-        Ok(Outcome { number, carried, header_type, octet: 0, count, distance, out: plain, second })
+        Ok(Outcome { number, carried, header_type, count, distance, out: plain, second, ..Outcome::default() })
+    }
+
+    /// As `open` on the connection that the message arrived on; where that would refuse with 6 or 7, and integrity is not null, as
+    /// `open` on the other one. Where both would refuse, 6 if both would with 6, else 7.
+    pub fn open_across(&mut self, direction: u8, arrived: u8, message: &[u8], room: usize, second: usize) -> Outcome {
+        let mut numbers = Vec::new();
+        for connection in [arrived, 3 - arrived] {
+            let outcome = self.open(direction, connection, message, room, second);
+            match outcome.number {
+                0 | 8 => return Outcome { connection, ..outcome },
+                6 | 7 if self.integrity != 0 => numbers.push(outcome.number),
+                _ => return outcome,
+            }
+        }
+        Outcome { number: if numbers == [6, 6] { 6 } else { 7 }, ..Outcome::default() }
     }
 
     pub fn seal_eps_message(&mut self, inner: &[u8], room: usize) -> Outcome {

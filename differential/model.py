@@ -23,6 +23,10 @@ INITIAL = (0x4C, 0x45)      # SERVICE REQUEST, DEREGISTRATION REQUEST from the U
 CONTAINER = 0x71
 
 
+class On(int):
+    """The connection that a message was taken on, in front of an answer."""
+
+
 class Refusal(Exception):
     """A refusal's number; for 8 also what a success would have answered and the number carried."""
 
@@ -201,6 +205,30 @@ class Context:
             raise Refusal(8, (answer + (b"",), content.number))
         return answer + (handed,)
 
+    def across(self, direction, connection, lent, second, message):
+        """As `open` on the connection that the message arrived on; where that refuses with 6 or 7, on the other. With the connection in front."""
+        try:
+            return self.open_on(direction, connection, lent, second, message)
+        except Refusal as refusal:
+            if self.integrity == 0 or refusal.number not in (6, 7):
+                raise
+            here = refusal
+        try:
+            return self.open_on(direction, 3 - connection, lent, second, message)
+        except Refusal as there:
+            if there.number == 8:
+                raise
+            raise Refusal(6 if here.number == there.number == 6 else 7)
+
+    def open_on(self, direction, connection, lent, second, message):
+        try:
+            return On(connection), *self.open(direction, connection, lent, second, message)
+        except Refusal as refusal:
+            if refusal.number == 8:
+                answer, carried = refusal.answer
+                raise Refusal(8, ((On(connection), *answer), carried))
+            raise
+
     def eps_seal(self, lent, inner):
         self.fault()
         refuse_if(12, inner[:2] not in EPS_REQUESTS)
@@ -358,13 +386,19 @@ CALLS = {
     "n1s1": [SLOT], "n1s1v": [SLOT, OCTET], "s1n1": [SLOT, OCTET, OCTET, LENT], "s1n1v": [SLOT, OCTETS],
     "raw": CODES + [OCTET] + [COUNT, BITS] * 4, "show": [SLOT],
 }
+CALLS["across"], CALLS["across2"] = CALLS["open"], CALLS["open2"]
+# the calls on a context where it lies are the calls
+IN_PLACE = {"sealin": "seal", "openin": "open", "open2in": "open2", "windowin": "window"}
+CALLS.update((name, CALLS[call]) for name, call in IN_PLACE.items())
 METHODS = {
     "seal": lambda c, *a: c.seal(False, *a), "opaque": lambda c, *a: c.seal(True, *a), "initial": Context.initial,
     "open": lambda c, d, k, lent, message: c.open(d, k, lent, lent, message), "open2": Context.open,
     "epsseal": Context.eps_seal, "epsopen": Context.eps_open, "n1s1": Context.n1_to_s1,
     "n1s1v": Context.verify_n1_to_s1, "s1n1": Context.s1_to_n1, "s1n1v": Context.verify_s1_to_n1,
     "reselect": Context.reselect, "window": Context.window,
+    "across": lambda c, d, k, lent, message: c.across(d, k, lent, lent, message), "across2": Context.across,
 }
+METHODS.update((name, METHODS[call]) for name, call in IN_PLACE.items())
 
 
 def parsed(line, calls=CALLS):
@@ -379,6 +413,8 @@ def parsed(line, calls=CALLS):
 
 
 def answer_line(answer, carried=None):
+    if isinstance(answer[0], On):
+        return f"{answer[0]} " + answer_line(answer[1:], carried)
     count, header, octet, octets, *received = answer
     distance, second = received[:1], received[1:]
     words = [f"{n:08x}" for n in (count, *distance)] + [f"{len(octets):04x}"]

@@ -1,7 +1,7 @@
 #!/usr/bin/env python3
 """What the documents quote: hex lines with their answers, and the example of README.md:  quoted.py
 
-docs/HEX-LINES.md, session/README.md and docs/DIFFERENCES.md quote the fixed sample (crates/nas_hex/stdin and stdout),
+docs/HEX-LINES.md, session/README.md, docs/DIFFERENCES.md and docs/HANDOVER.md quote the fixed sample (crates/nas_hex/stdin and stdout),
 which the gate runs: sample.py takes the lines from them. This compares the answers that they show with the sample's.
 A quoted line stands alone in an indented block; `$ COMMAND` is a line too long to show, as the command that prints it;
 `Rust: ANSWER` is what the Rust text answers, where it differs. The example of README.md stands in crates/example.
@@ -11,7 +11,7 @@ import subprocess
 import sys
 
 ROOT = os.path.join(os.path.dirname(os.path.abspath(__file__)), "..")
-PAGES = ("docs/HEX-LINES.md", "session/README.md", "docs/DIFFERENCES.md")
+PAGES = ("docs/HEX-LINES.md", "session/README.md", "docs/DIFFERENCES.md", "docs/HANDOVER.md")
 
 
 def printed(command):

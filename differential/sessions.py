@@ -1,7 +1,8 @@
 #!/usr/bin/env python3
 """Random sessions of hex lines:  sessions.py SEED LINES [--rust]  prints the lines.
 
-Every call; messages lost, repeated, reordered, damaged, cut; lengths around each boundary; COUNTs near the end; null
+Every call, also on a context where it lies and across connections; messages lost, repeated, reordered, damaged, cut,
+arriving on the other connection; lengths around each boundary; COUNTs near the end; null
 integrity; codes that are not built; contexts put together by hand; initial messages of random parts, with containers
 that are whole, of another message, of another COUNT, or cut; odd lines. With --rust few lines lie outside what
 the Rust text can say (document 01, module 6), so that most slots stay comparable. The model runs along, so that the
@@ -208,19 +209,28 @@ class Maker:
             self.sent = (self.sent + [(d, c, bytes.fromhex(answer[3]))])[-40:]
         return line
 
+    def in_place(self, call):
+        """The call's name, or now and then that of the same call on a context where it lies."""
+        return call + "in" if not self.rust and self.rarely(0.2) else call
+
+    def opening(self, call):
+        return self.in_place(call) if self.rust or not self.rarely(0.25) else call.replace("open", "across")
+
     def open(self, slot):
         if self.sent and self.rarely(0.5):
             d, c, message = self.random.choice(self.sent[-6:] if self.rarely(0.7) else self.sent)
             if self.rarely(0.03):
                 d, c = self.random.randrange(2), self.pick(1, 2)
+            elif not self.rust and self.rarely(0.15):
+                c = 3 - c               # after a handover
         else:
             d, c, message = self.spoken(slot)
         message = self.damaged(message)
         need = len(message) - 7
         if not self.rarely(0.3):
-            return f"open {slot} {d} {c} {self.lent(need):04x} {hexed(message)}"
+            return f"{self.opening('open')} {slot} {d} {c} {self.lent(need):04x} {hexed(message)}"
         second = self.pick(need, need + 1, need + 9) if self.rust and not self.rarely(0.05) else self.pick(0, need, need - 1, need + 1)
-        return f"open2 {slot} {d} {c} {self.lent(need):04x} {min(max(second, 0), 0xFFFF):04x} {hexed(message)}"
+        return f"{self.opening('open2')} {slot} {d} {c} {self.lent(need):04x} {min(max(second, 0), 0xFFFF):04x} {hexed(message)}"
 
     def spoken(self, slot):
         """A message that a context with the same keys seals at a COUNT of our choice."""
@@ -293,7 +303,7 @@ class Maker:
 
     def line_of(self, slot):
         x = self.random.random()
-        if x < 0.20: return self.seal(slot, "seal")
+        if x < 0.20: return self.seal(slot, self.in_place("seal"))
         if x < 0.26: return self.seal(slot, "opaque")
         if x < 0.30: return self.initial(slot)
         if x < 0.66: return self.open(slot)
@@ -303,7 +313,7 @@ class Maker:
         if x < 0.82: return f"n1s1v {slot} {self.pick(self.random.randrange(256), self.near(self.session.slots[slot], 1) & 255):02x}"
         if x < 0.84: return self.s1_to_n1(slot)
         if x < 0.87: return self.verify_s1_to_n1(slot)
-        if x < 0.91: return f"window {slot} {self.size() if not self.rarely(0.1) else self.pick(65, 66, 255):02x}"
+        if x < 0.91: return f"{self.in_place('window')} {slot} {self.size() if not self.rarely(0.1) else self.pick(65, 66, 255):02x}"
         if x < 0.93: return f"show {slot}"
         if x < 0.95: return f"reselect {slot} {self.selection()}"
         if x < 0.96: return f"raw {slot}" if self.rarely(0.1) else self.raw(slot)

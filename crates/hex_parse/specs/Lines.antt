@@ -10,7 +10,7 @@ use Rattle.hex_lines.specs.declared.Decoded.the-variants as decoded
 use Rattle.hex_parse.specs.Form.{slot, digits, direction, connection, key, isRow, hasHead, from, word, keyWord}
 use Rattle.hex_parse.specs.Names as name
 use Rattle.hex_parse.specs.declared.Call.{Call}
-use Rattle.hex_parse.specs.declared.Call.the-variants.{Bad, New, Restore, Reselect, Window, Seal, Opaque, Initial, Open, EpsSeal, EpsOpen, N1ToS1, VerifyN1ToS1, S1ToN1, VerifyS1ToN1, Raw, Show}
+use Rattle.hex_parse.specs.declared.Call.the-variants.{Bad, New, Restore, Reselect, Window, Seal, Opaque, Initial, Open, EpsSeal, EpsOpen, N1ToS1, VerifyN1ToS1, S1ToN1, VerifyS1ToN1, Raw, Show, Across, WindowIn, SealIn, OpenIn}
 use Rattle.hex_parse.specs.declared.Line.{Line}
 
 -- new S II CC IK CK, and reselect so
@@ -21,11 +21,11 @@ selection name = name ∷ slot ∷ digits 2 ∷ digits 2 ∷ key ∷ key ∷ []
 abbrev pub restoreForm : List (List ℕ)
 restoreForm = name.restore ∷ slot ∷ digits 2 ∷ digits 2 ∷ key ∷ key ∷ digits 8 ∷ digits 8 ∷ digits 8 ∷ digits 8 ∷ []
 
--- window S WW
-abbrev pub windowForm : List (List ℕ)
-windowForm = name.window ∷ slot ∷ digits 2 ∷ []
+-- window S WW, and windowin so
+abbrev pub sizing : List ℕ → List (List ℕ)
+sizing name = name ∷ slot ∷ digits 2 ∷ []
 
--- seal S TT D C LLLL OCTETS, and opaque so
+-- seal S TT D C LLLL OCTETS, and opaque and sealin so
 abbrev pub sealing : List ℕ → List (List ℕ)
 sealing name = name ∷ slot ∷ digits 2 ∷ direction ∷ connection ∷ digits 4 ∷ []
 
@@ -33,13 +33,13 @@ sealing name = name ∷ slot ∷ digits 2 ∷ direction ∷ connection ∷ digit
 abbrev pub initialForm : List (List ℕ)
 initialForm = name.initial ∷ slot ∷ connection ∷ digits 4 ∷ []
 
--- open S D C LLLL OCTETS
-abbrev pub openForm : List (List ℕ)
-openForm = name.open′ ∷ slot ∷ direction ∷ connection ∷ digits 4 ∷ []
+-- open S D C LLLL OCTETS, and openin and across so
+abbrev pub opening : List ℕ → List (List ℕ)
+opening name = name ∷ slot ∷ direction ∷ connection ∷ digits 4 ∷ []
 
--- open2 S D C LLLL MMMM OCTETS
-abbrev pub open2Form : List (List ℕ)
-open2Form = name.open2 ∷ slot ∷ direction ∷ connection ∷ digits 4 ∷ digits 4 ∷ []
+-- open2 S D C LLLL MMMM OCTETS, and open2in and across2 so
+abbrev pub opening2 : List ℕ → List (List ℕ)
+opening2 name = name ∷ slot ∷ direction ∷ connection ∷ digits 4 ∷ digits 4 ∷ []
 
 -- epsseal S LLLL OCTETS, and epsopen so
 abbrev pub epsForm : List ℕ → List (List ℕ)
@@ -96,7 +96,7 @@ unfoldable pub changeLine : List ℕ → Line → Line
 changeLine t other =
     cond (isRow (selection name.new) t) (selected (selection name.new) t New)
     (cond (isRow (selection name.reselect) t) (selected (selection name.reselect) t Reselect)
-    (cond (isRow windowForm t) (plain (word windowForm t 1) (Window (word windowForm t 2)))
+    (cond (isRow (sizing name.window) t) (plain (word (sizing name.window) t 1) (Window (word (sizing name.window) t 2)))
     other))
 
 -- with next COUNTs
@@ -138,16 +138,36 @@ sealLine t other =
     (cond (hasHead initialForm t) (headed (word initialForm t 1) (Initial (word initialForm t 2)) (word initialForm t 3) (afterHead initialForm))
     other))
 
--- `open` lends as much to its second output as to its first
-abbrev pub opened : List (List ℕ) → List ℕ → ℕ → Line
-opened form t second =
-    headedTwo (word form t 1) (Open (word form t 2) (word form t 3)) (word form t 4) second (afterHead form)
+-- the shorter form lends as much to the second output as to the first
+abbrev pub opened : List ℕ → List ℕ → (ℕ → ℕ → Call) → Line
+opened name t call =
+    let form = opening name in
+    headedTwo (word form t 1) (call (word form t 2) (word form t 3)) (word form t 4) (word form t 4) (afterHead form)
+
+abbrev pub opened2 : List ℕ → List ℕ → (ℕ → ℕ → Call) → Line
+opened2 name t call =
+    let form = opening2 name in
+    headedTwo (word form t 1) (call (word form t 2) (word form t 3)) (word form t 4) (word form t 5) (afterHead form)
 
 unfoldable pub openLine : List ℕ → Line → Line
 openLine t other =
-    cond (hasHead openForm t) (opened openForm t (word openForm t 4))
-    (cond (hasHead open2Form t) (opened open2Form t (word open2Form t 5))
+    cond (hasHead (opening name.open′) t) (opened name.open′ t Open)
+    (cond (hasHead (opening2 name.open2) t) (opened2 name.open2 t Open)
     other)
+
+unfoldable pub acrossLine : List ℕ → Line → Line
+acrossLine t other =
+    cond (hasHead (opening name.across) t) (opened name.across t Across)
+    (cond (hasHead (opening2 name.across2) t) (opened2 name.across2 t Across)
+    other)
+
+unfoldable pub inPlaceLine : List ℕ → Line → Line
+inPlaceLine t other =
+    cond (hasHead (sealing name.sealin) t) (sealed (sealing name.sealin) t SealIn)
+    (cond (hasHead (opening name.openin) t) (opened name.openin t OpenIn)
+    (cond (hasHead (opening2 name.open2in) t) (opened2 name.open2in t OpenIn)
+    (cond (isRow (sizing name.windowin) t) (plain (word (sizing name.windowin) t 1) (WindowIn (word (sizing name.windowin) t 2)))
+    other)))
 
 unfoldable pub epsLine : List ℕ → Line → Line
 epsLine t other =
@@ -165,8 +185,11 @@ containerLine t other =
     other)))
 
 -- the line up to its octets
+abbrev pub beyondOf : List ℕ → Line
+beyondOf t = acrossLine t (inPlaceLine t bad)
+
 abbrev pub restOf : List ℕ → Line
-restOf t = changeLine t (containerLine t (stateLine t bad))
+restOf t = changeLine t (containerLine t (stateLine t (beyondOf t)))
 
 unfoldable pub headOf : List ℕ → Line
 headOf t = sealLine t (openLine t (epsLine t (restOf t)))

@@ -69,3 +69,27 @@ raw = 114 ∷ 97 ∷ 119 ∷ []
 -- show
 abbrev pub show : List ℕ
 show = 115 ∷ 104 ∷ 111 ∷ 119 ∷ []
+
+-- across
+abbrev pub across : List ℕ
+across = 97 ∷ 99 ∷ 114 ∷ 111 ∷ 115 ∷ 115 ∷ []
+
+-- across2
+abbrev pub across2 : List ℕ
+across2 = 97 ∷ 99 ∷ 114 ∷ 111 ∷ 115 ∷ 115 ∷ 50 ∷ []
+
+-- sealin
+abbrev pub sealin : List ℕ
+sealin = 115 ∷ 101 ∷ 97 ∷ 108 ∷ 105 ∷ 110 ∷ []
+
+-- openin
+abbrev pub openin : List ℕ
+openin = 111 ∷ 112 ∷ 101 ∷ 110 ∷ 105 ∷ 110 ∷ []
+
+-- open2in
+abbrev pub open2in : List ℕ
+open2in = 111 ∷ 112 ∷ 101 ∷ 110 ∷ 50 ∷ 105 ∷ 110 ∷ []
+
+-- windowin
+abbrev pub windowin : List ℕ
+windowin = 119 ∷ 105 ∷ 110 ∷ 100 ∷ 111 ∷ 119 ∷ 105 ∷ 110 ∷ []

@@ -1,6 +1,6 @@
 // The forms, and what each line is up to its octets: X is any digit, S a slot, D a direction, C a connection.
 ghost use mathlib.Core.Path.{_≡_};
-ghost use Rattle.hex_parse.specs.Lines.{no4, lineWith, headedTwo, headed, plain, bad, restoreLine, rawLine, changeLine, openLine, epsLine, containerLine, stateLine, restOf, headOf};
+ghost use Rattle.hex_parse.specs.Lines.{no4, lineWith, headedTwo, headed, plain, bad, restoreLine, rawLine, changeLine, openLine, epsLine, containerLine, stateLine, inPlaceLine, acrossLine, beyondOf, restOf, headOf};
 use crate::Call;
 use crate::Line;
 use crate::form;
@@ -125,7 +125,7 @@ fn change(text: &[u8]) -> Line
 
 // The containers of a handover.
 fn container(text: &[u8]) -> Line
-    ensures { λ r. ⌜ r ≡ containerLine (now (text .entry)) (stateLine (now (text .entry)) bad) ⌝ }
+    ensures { λ r. ⌜ r ≡ containerLine (now (text .entry)) (stateLine (now (text .entry)) (beyondOf (now (text .entry)))) ⌝ }
 {
     if form::fits(b"n1s1 S", text) {
         return plain(form::slot(text, 5), Call::N1ToS1);
@@ -151,7 +151,7 @@ fn container(text: &[u8]) -> Line
 
 // A context stored or put together by hand, and shown.
 fn state(text: &[u8]) -> Line
-    ensures { λ r. ⌜ r ≡ stateLine (now (text .entry)) bad ⌝ }
+    ensures { λ r. ⌜ r ≡ stateLine (now (text .entry)) (beyondOf (now (text .entry))) ⌝ }
 {
     if form::fits(
         b"restore S XX XX XXXXXXXXXXXXXXXXXXXXXXXXXXXXXXXX XXXXXXXXXXXXXXXXXXXXXXXXXXXXXXXX XXXXXXXX XXXXXXXX XXXXXXXX XXXXXXXX",
@@ -167,6 +167,73 @@ fn state(text: &[u8]) -> Line
     }
     if form::fits(b"show S", text) {
         return plain(form::slot(text, 5), Call::Show);
+    }
+    across(text)
+}
+
+// Opening on either connection.
+fn across(text: &[u8]) -> Line
+    ensures { λ r. ⌜ r ≡ beyondOf (now (text .entry)) ⌝ }
+{
+    if form::begins(b"across S D C XXXX ", text) {
+        let call = Call::Across {
+            direction: form::digit(text, 9),
+            connection: form::digit(text, 11),
+        };
+        let room = form::room(text, 13);
+        return headed_two(form::slot(text, 7), call, room, room, 18);
+    }
+    if form::begins(b"across2 S D C XXXX XXXX ", text) {
+        let call = Call::Across {
+            direction: form::digit(text, 10),
+            connection: form::digit(text, 12),
+        };
+        return headed_two(
+            form::slot(text, 8),
+            call,
+            form::room(text, 14),
+            form::room(text, 19),
+            24,
+        );
+    }
+    in_place(text)
+}
+
+// The calls on a context where it lies.
+fn in_place(text: &[u8]) -> Line
+    ensures { λ r. ⌜ r ≡ inPlaceLine (now (text .entry)) bad ⌝ }
+{
+    if form::begins(b"sealin S XX D C XXXX ", text) {
+        let call = Call::SealIn {
+            header: form::octet(text, 9),
+            direction: form::digit(text, 12),
+            connection: form::digit(text, 14),
+        };
+        return headed(form::slot(text, 7), call, form::room(text, 16), 21);
+    }
+    if form::begins(b"openin S D C XXXX ", text) {
+        let call = Call::OpenIn {
+            direction: form::digit(text, 9),
+            connection: form::digit(text, 11),
+        };
+        let room = form::room(text, 13);
+        return headed_two(form::slot(text, 7), call, room, room, 18);
+    }
+    if form::begins(b"open2in S D C XXXX XXXX ", text) {
+        let call = Call::OpenIn {
+            direction: form::digit(text, 10),
+            connection: form::digit(text, 12),
+        };
+        return headed_two(
+            form::slot(text, 8),
+            call,
+            form::room(text, 14),
+            form::room(text, 19),
+            24,
+        );
+    }
+    if form::fits(b"windowin S XX", text) {
+        return plain(form::slot(text, 9), Call::WindowIn(form::octet(text, 11)));
     }
     bad()
 }

@@ -55,6 +55,22 @@ pub enum Call {
         size: u8,
     },
     Show,
+    // either connection
+    Across {
+        direction: u8,
+        connection: u8,
+    },
+    // on the slot's context where it lies
+    WindowIn(u8),
+    SealIn {
+        header: u8,
+        direction: u8,
+        connection: u8,
+    },
+    OpenIn {
+        direction: u8,
+        connection: u8,
+    },
 }
 
 pub struct Line {

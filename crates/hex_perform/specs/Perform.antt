@@ -17,13 +17,14 @@ use Rattle.nas_5gs.specs.Seal.{sealOf, sealOpaqueOf}
 use Rattle.nas_5gs.specs.Initial.{initialOf}
 use Rattle.nas_5gs.specs.Open.{openOf}
 use Rattle.nas_5gs.specs.Eps.{sealEpsOf, openEpsOf}
+use Rattle.handover.specs.Across.{acrossOf}
 use Rattle.nas_5gs.specs.Containers.{n1ToS1Of, verifyN1ToS1Of, s1ToN1Of, verifyS1ToN1Of}
 use Rattle.hex_parse.specs.declared.Line.{Line}
 use Rattle.hex_parse.specs.declared.Call.{Call}
 use Rattle.hex_parse.specs.declared.Call.the-variants as call
 use Rattle.hex_perform.specs.declared.Answer.{Answer}
 use Rattle.hex_perform.specs.declared.Answer.the-variants.{Bad, Done, Shown, Refused}
-use Rattle.hex_perform.specs.Answers.{changeAnswer, useAnswer, octetAnswer, openAnswer, epsAnswer, verifyAnswer, writing, writingTwo, beside, keeping}
+use Rattle.hex_perform.specs.Answers.{changeAnswer, useAnswer, octetAnswer, openAnswer, epsAnswer, verifyAnswer, writing, writingTwo, writingAcross, beside, keeping}
 
 unfoldable pub directionOf : ℕ → Direction
 directionOf n = cond (eqb n 0) Uplink Downlink
@@ -60,6 +61,10 @@ callOf call.VerifyS1ToN1 l x o out second = keeping out second (writing useAnswe
 callOf (call.Raw i c n) l x o out second =
     leavesTwo Done (rawContext i c n (l .«integrity_key») (l .«ciphering_key») (l .next) (l .bits)) out second
 callOf call.Show l x o out second = leavesTwo Shown x out second
+callOf (call.Across d k) l x o out second = writingAcross (acrossOf x (directionOf d) (connectionOf k) o out second)
+callOf (call.WindowIn n) l x o out second = keeping out second (writing changeAnswer (windowOf x n))
+callOf (call.SealIn t d k) l x o out second = beside second (writing useAnswer (sealOf x t (directionOf d) (connectionOf k) o out))
+callOf (call.OpenIn d k) l x o out second = writingTwo openAnswer (openOf x (directionOf d) (connectionOf k) o out second)
 
 -- more octets than the program holds: 4, before the library is called
 unfoldable pub performOf : Line → Context → List ℕ → List ℕ → List ℕ → LeavesTwo Answer

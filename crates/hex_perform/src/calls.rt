@@ -8,7 +8,9 @@ ghost use Rattle.nas_5gs.specs.Initial.{initialOf};
 ghost use Rattle.nas_5gs.specs.Open.{openOf};
 ghost use Rattle.nas_5gs.specs.Eps.{sealEpsOf, openEpsOf};
 ghost use Rattle.nas_5gs.specs.Containers.{n1ToS1Of, verifyN1ToS1Of, s1ToN1Of, verifyS1ToN1Of};
-ghost use Rattle.hex_perform.specs.Answers.{changeAnswer, useAnswer, octetAnswer, openAnswer, epsAnswer, verifyAnswer, writing, writingTwo};
+ghost use Rattle.nas_5gs.specs.Places.{bearerNo};
+ghost use Rattle.handover.specs.Across.{acrossOf};
+ghost use Rattle.hex_perform.specs.Answers.{changeAnswer, useAnswer, octetAnswer, openAnswer, epsAnswer, verifyAnswer, writing, writingTwo, writingAcross};
 ghost use Rattle.hex_perform.specs.Perform.{directionOf, connectionOf, rawContext, callOf};
 use crate::Answer;
 use crate::Done;
@@ -20,6 +22,7 @@ use nas_5gs::ChangeDone;
 use nas_5gs::Connection;
 use nas_5gs::Context;
 use nas_5gs::Direction;
+use nas_5gs::OpenDone;
 use nas_5gs::UseDone;
 use nas_core::Core;
 
@@ -59,6 +62,17 @@ fn used(done: UseDone) -> Done
     let context = done.context;
     Done {
         answer: crate::use_answer(answer),
+        context,
+    }
+}
+
+fn opened(done: OpenDone) -> Done
+    ensures { λ r. ⌜ (r .answer ≡ openAnswer (done .answer)) × (r .context ≡ done .context) ⌝ }
+{
+    let answer = done.answer;
+    let context = done.context;
+    Done {
+        answer: crate::open_answer(answer),
         context,
     }
 }
@@ -136,13 +150,78 @@ fn open(
 {
     let d = direction_of(direction);
     let k = connection_of(connection);
-    let done = context.open(d, k, message, out, second);
-    let answer = done.answer;
+    opened(context.open(d, k, message, out, second))
+}
+
+// 1 or 2, as a line has it.
+fn digit_of(connection: Connection) -> u8
+    ensures { λ r. ⌜ r ≡ bearerNo connection ⌝ }
+{
+    match connection {
+        Connection::ThreeGpp => 1,
+        Connection::Non3Gpp => 2,
+    }
+}
+
+fn across(
+    context: Context,
+    direction: u8,
+    connection: u8,
+    message: &[u8],
+    out: &mut [u8],
+    second: &mut [u8],
+) -> Done
+    ensures { λ r. ⌜ leavesTwo (r .answer) (r .context) (now (out .exit)) (now (second .exit)) ≡ writingAcross (acrossOf context (directionOf direction) (connectionOf connection) (now (message .entry)) (now (out .entry)) (now (second .entry))) ⌝ }
+{
+    let d = direction_of(direction);
+    let k = connection_of(connection);
+    let done = handover::open_across(context, d, k, message, out, second);
+    let taken = done.answer;
     let after = done.context;
+    let on = taken.connection;
+    let answer = taken.answer;
+    let digit = digit_of(on);
     Done {
-        answer: crate::open_answer(answer),
+        answer: crate::across_answer(digit, answer),
         context: after,
     }
+}
+
+// The same calls on a context where it lies.
+fn window_in(context: Context, size: u8) -> Done
+    ensures { λ r. ⌜ leaves (r .answer) (r .context) [] ≡ writing changeAnswer (windowOf context size) ⌝ }
+{
+    changed(nas_lent::set_window(context, size))
+}
+
+fn seal_in(
+    context: Context,
+    header: u8,
+    direction: u8,
+    connection: u8,
+    inner: &[u8],
+    out: &mut [u8],
+) -> Done
+    ensures { λ r. ⌜ leaves (r .answer) (r .context) (now (out .exit)) ≡ writing useAnswer (sealOf context header (directionOf direction) (connectionOf connection) (now (inner .entry)) (now (out .entry))) ⌝ }
+{
+    let d = direction_of(direction);
+    let k = connection_of(connection);
+    used(nas_lent::seal(context, header, d, k, inner, out))
+}
+
+fn open_in(
+    context: Context,
+    direction: u8,
+    connection: u8,
+    message: &[u8],
+    out: &mut [u8],
+    second: &mut [u8],
+) -> Done
+    ensures { λ r. ⌜ leavesTwo (r .answer) (r .context) (now (out .exit)) (now (second .exit)) ≡ writingTwo openAnswer (openOf context (directionOf direction) (connectionOf connection) (now (message .entry)) (now (out .entry)) (now (second .entry))) ⌝ }
+{
+    let d = direction_of(direction);
+    let k = connection_of(connection);
+    opened(nas_lent::open(context, d, k, message, out, second))
 }
 
 fn eps_seal(context: Context, inner: &[u8], out: &mut [u8]) -> Done
@@ -301,5 +380,19 @@ pub fn call(line: Line, context: Context, octets: &[u8], out: &mut [u8], second:
             answer: Answer::Shown,
             context,
         },
+        Call::Across {
+            direction,
+            connection,
+        } => across(context, direction, connection, octets, out, second),
+        Call::WindowIn(size) => window_in(context, size),
+        Call::SealIn {
+            header,
+            direction,
+            connection,
+        } => seal_in(context, header, direction, connection, octets, out),
+        Call::OpenIn {
+            direction,
+            connection,
+        } => open_in(context, direction, connection, octets, out, second),
     }
 }

@@ -2,7 +2,7 @@
 ghost use mathlib.Core.Path.{_≡_};
 ghost use lib.ListN.{length, replicate};
 ghost use Rattle.nas_5gs.specs.Leaves.{leavesTwo};
-ghost use Rattle.hex_perform.specs.Answers.{changeAnswer, useAnswer, octetAnswer, openAnswer, epsAnswer, verifyAnswer};
+ghost use Rattle.hex_perform.specs.Answers.{changeAnswer, useAnswer, octetAnswer, openAnswer, acrossAnswer, epsAnswer, verifyAnswer};
 ghost use Rattle.hex_perform.specs.Perform.{performOf};
 
 mod calls;
@@ -54,6 +54,23 @@ pub enum Answer {
         count: u32,
         distance: u32,
         wrote: usize,
+    },
+    // as `Opened` and `Content`, on the connection that the message was taken on
+    OpenedOn {
+        connection: u8,
+        count: u32,
+        distance: u32,
+        wrote: usize,
+        header: u8,
+        second: usize,
+    },
+    ContentOn {
+        connection: u8,
+        count: u32,
+        distance: u32,
+        wrote: usize,
+        header: u8,
+        number: u8,
     },
 }
 
@@ -114,6 +131,42 @@ fn open_answer(answer: OpenAnswer) -> Answer
             header_type,
             number,
         } => Answer::Content {
+            count,
+            distance,
+            wrote,
+            header: header_type,
+            number,
+        },
+    }
+}
+
+fn across_answer(digit: u8, answer: OpenAnswer) -> Answer
+    ensures { λ r. ⌜ r ≡ acrossAnswer digit answer ⌝ }
+{
+    match answer {
+        OpenAnswer::Refused(number) => Answer::Refused(number),
+        OpenAnswer::Accepted {
+            count,
+            distance,
+            wrote,
+            header_type,
+            second,
+        } => Answer::OpenedOn {
+            connection: digit,
+            count,
+            distance,
+            wrote,
+            header: header_type,
+            second,
+        },
+        OpenAnswer::Content {
+            count,
+            distance,
+            wrote,
+            header_type,
+            number,
+        } => Answer::ContentOn {
+            connection: digit,
             count,
             distance,
             wrote,

@@ -10,7 +10,7 @@ use Rattle.nas_core.specs.declared.Core.{Core}
 use Rattle.nas_5gs.specs.declared.Context.{Context}
 use Rattle.nas_5gs.specs.Places.{recordAt}
 use Rattle.hex_perform.specs.declared.Answer.{Answer}
-use Rattle.hex_perform.specs.declared.Answer.the-variants.{Bad, Done, Shown, Refused, Used, Made, Opened, Content, EpsContent, Received}
+use Rattle.hex_perform.specs.declared.Answer.the-variants.{Bad, Done, Shown, Refused, Used, Made, Opened, Content, EpsContent, Received, OpenedOn, ContentOn}
 use Rattle.hex_print.specs.Words.{ok, no, bad, word, decimalWord, octetsWord}
 
 -- how many octets were written in the output
@@ -25,6 +25,8 @@ wroteOf (Opened c d w t s) = w
 wroteOf (Content c d w t n) = w
 wroteOf (EpsContent c d w n) = w
 wroteOf (Received c d w) = w
+wroteOf (OpenedOn k c d w t s) = w
+wroteOf (ContentOn k c d w t n) = w
 
 -- how many in the second output
 abbrev pub secondOf : Answer → ℕ
@@ -38,6 +40,8 @@ secondOf (Opened c d w t s) = s
 secondOf (Content c d w t n) = 0
 secondOf (EpsContent c d w n) = 0
 secondOf (Received c d w) = 0
+secondOf (OpenedOn k c d w t s) = s
+secondOf (ContentOn k c d w t n) = 0
 
 -- COUNT WROTE
 unfoldable pub usedText : ℕ → ℕ → List ℕ
@@ -77,6 +81,9 @@ answerText (Opened c d w t s) x o = ok ++ receivedText c d w ++ word 1 t ++ octe
 answerText (Content c d w t n) x o = contentText c d w ++ word 1 t ++ decimalWord n ++ octetsWord o
 answerText (EpsContent c d w n) x o = contentText c d w ++ decimalWord n ++ octetsWord o
 answerText (Received c d w) x o = ok ++ receivedText c d w ++ octetsWord o
+answerText (OpenedOn k c d w t s) x o = ok ++ decimalWord k ++ receivedText c d w ++ word 1 t ++ octetsWord o
+answerText (ContentOn k c d w t n) x o =
+    no ++ decimalWord 8 ++ decimalWord k ++ receivedText c d w ++ word 1 t ++ decimalWord n ++ octetsWord o
 
 -- WROTE2 OCTETS2 behind the answers of `open`
 unfoldable pub secondText : Answer → List ℕ → List ℕ
@@ -90,6 +97,8 @@ secondText (Opened c d w t s) o = word 2 s ++ octetsWord o
 secondText (Content c d w t n) o = word 2 0 ++ octetsWord o
 secondText (EpsContent c d w n) o = []
 secondText (Received c d w) o = []
+secondText (OpenedOn k c d w t s) o = word 2 s ++ octetsWord o
+secondText (ContentOn k c d w t n) o = word 2 0 ++ octetsWord o
 
 -- ` !tail` if an octet after those written in either output is no longer a5
 unfoldable pub isKept : List ℕ → Bool

@@ -49,6 +49,22 @@ pub fn wrote(answer: Answer) -> usize
             distance: _,
             wrote,
         } => wrote,
+        Answer::OpenedOn {
+            connection: _,
+            count: _,
+            distance: _,
+            wrote,
+            header: _,
+            second: _,
+        } => wrote,
+        Answer::ContentOn {
+            connection: _,
+            count: _,
+            distance: _,
+            wrote,
+            header: _,
+            number: _,
+        } => wrote,
     }
 }
 
@@ -87,6 +103,22 @@ pub fn second(answer: Answer) -> usize
             count: _,
             distance: _,
             wrote: _,
+        } => 0,
+        Answer::OpenedOn {
+            connection: _,
+            count: _,
+            distance: _,
+            wrote: _,
+            header: _,
+            second,
+        } => second,
+        Answer::ContentOn {
+            connection: _,
+            count: _,
+            distance: _,
+            wrote: _,
+            header: _,
+            number: _,
         } => 0,
     }
 }
@@ -229,6 +261,50 @@ fn put_eps_content(
     words::octets(written, out, carried)
 }
 
+// With the digit of the connection that the message was taken on in front.
+
+fn put_opened_on(
+    connection: u8,
+    count: u32,
+    distance: u32,
+    wrote: usize,
+    header: u8,
+    written: &[u8],
+    out: &mut [u8],
+    at: usize,
+) -> usize
+    requires { ⌜ at + 1024 + length (now written) * 2 ≤ length (now out) ⌝ }
+    ensures { λ r. ⌜ Puts (now (out .entry)) at (ok ++ decimalWord connection ++ receivedText count distance wrote ++ word 1 header ++ octetsWord (now (written .entry))) (now (out .exit)) r × (r ≤ at + 250 + length (now (written .entry)) * 2) ⌝ }
+{
+    let next = words::text(b"ok", out, at);
+    let taken = words::decimal(connection, out, next);
+    let far = received(count, distance, wrote, out, taken);
+    let typed = words::word(header as u64, 1, out, far);
+    words::octets(written, out, typed)
+}
+
+fn put_content_on(
+    connection: u8,
+    count: u32,
+    distance: u32,
+    wrote: usize,
+    header: u8,
+    number: u8,
+    written: &[u8],
+    out: &mut [u8],
+    at: usize,
+) -> usize
+    requires { ⌜ at + 1024 + length (now written) * 2 ≤ length (now out) ⌝ }
+    ensures { λ r. ⌜ Puts (now (out .entry)) at (no ++ decimalWord 8 ++ decimalWord connection ++ receivedText count distance wrote ++ word 1 header ++ decimalWord number ++ octetsWord (now (written .entry))) (now (out .exit)) r × (r ≤ at + 250 + length (now (written .entry)) * 2) ⌝ }
+{
+    let next = refusal(8, out, at);
+    let taken = words::decimal(connection, out, next);
+    let far = received(count, distance, wrote, out, taken);
+    let typed = words::word(header as u64, 1, out, far);
+    let carried = words::decimal(number, out, typed);
+    words::octets(written, out, carried)
+}
+
 // An answer with the octets that were written in the output, or the context for `show`.
 pub fn answer_text(
     answer: Answer,
@@ -272,6 +348,32 @@ pub fn answer_text(
             distance,
             wrote,
         } => put_received(count, distance, wrote, written, out, at),
+        Answer::OpenedOn {
+            connection,
+            count,
+            distance,
+            wrote,
+            header,
+            second: _,
+        } => put_opened_on(connection, count, distance, wrote, header, written, out, at),
+        Answer::ContentOn {
+            connection,
+            count,
+            distance,
+            wrote,
+            header,
+            number,
+        } => put_content_on(
+            connection,
+            count,
+            distance,
+            wrote,
+            header,
+            number,
+            written,
+            out,
+            at,
+        ),
     }
 }
 
@@ -320,6 +422,22 @@ pub fn second_text(answer: Answer, written: &[u8], out: &mut [u8], at: usize) ->
             distance: _,
             wrote: _,
         } => at,
+        Answer::OpenedOn {
+            connection: _,
+            count: _,
+            distance: _,
+            wrote: _,
+            header: _,
+            second,
+        } => put_second(second, written, out, at),
+        Answer::ContentOn {
+            connection: _,
+            count: _,
+            distance: _,
+            wrote: _,
+            header: _,
+            number: _,
+        } => put_second(0, written, out, at),
     }
 }
 

@@ -24,7 +24,7 @@ placeOf d k = cond (eqb k 1) (cond (eqb d 0) 0 1) (cond (eqb d 0) 2 3)
 unfoldable pub accessOf : ℕ → ℕ
 accessOf k = cond (eqb k 1) 0 1
 
--- the call of a line with n octets of output lent and m of second output, as a journal has it; `raw`, `show` and what is no line are none
+-- the call of a line with n octets of output lent and m of second output, as a journal has it; the lines that request 10 does not name (`raw`, `show`, `across`, those in place) and what is no line are none
 abbrev pub entryOf : Call → ℕ → ℕ → Entry
 entryOf hex.Bad n m = journal.Unknown
 entryOf (hex.New i c) n m = journal.New i c
@@ -43,6 +43,10 @@ entryOf (hex.S1ToN1 p k) n m = journal.S1ToN1 p k n
 entryOf hex.VerifyS1ToN1 n m = journal.VerifyS1ToN1
 entryOf (hex.Raw i c w) n m = journal.Unknown
 entryOf hex.Show n m = journal.Unknown
+entryOf (hex.Across d k) n m = journal.Unknown
+entryOf (hex.WindowIn w) n m = journal.Unknown
+entryOf (hex.SealIn t d k) n m = journal.Unknown
+entryOf (hex.OpenIn d k) n m = journal.Unknown
 
 -- what stands behind the front of its bytes: keys, keys and next COUNTs, or the line's octets o
 abbrev pub behindOf : Call → Behind
@@ -63,6 +67,10 @@ behindOf (hex.S1ToN1 p k) = Octets
 behindOf hex.VerifyS1ToN1 = Octets
 behindOf (hex.Raw i c w) = Octets
 behindOf hex.Show = Octets
+behindOf (hex.Across d k) = Octets
+behindOf (hex.WindowIn w) = Octets
+behindOf (hex.SealIn t d k) = Octets
+behindOf (hex.OpenIn d k) = Octets
 
 abbrev pub restIn : Behind → Line → List ℕ → List ℕ
 restIn Keys l o = l .«integrity_key» ++ l .«ciphering_key»
@@ -77,8 +85,12 @@ unfoldable pub bytesOf : Line → List ℕ → List ℕ
 bytesOf l o = frontOf (entryIn l) ++ restIn (behindOf (l .call)) l o
 
 -- more octets than the program holds: 4. What is no call has no kind: 1
+abbrev pub longNumber : Entry → ℕ
+longNumber e = cond (eqb (kindOf e) 0) 1 4
+
 unfoldable pub writtenOf : Line → List ℕ → List ℕ → Writes
-writtenOf l o out = cond (l .long) (writes (Refused 4) out) (writeOf (kindOf (entryIn l)) (bytesOf l o) out)
+writtenOf l o out =
+    cond (l .long) (writes (Refused (longNumber (entryOf (l .call) 0 0))) out) (writeOf (kindOf (entryIn l)) (bytesOf l o) out)
 
 -- the other way: a line with keys, and one with octets r, n octets of output lent and m of second output
 abbrev pub keyed : Call → List ℕ → List ℕ → Line

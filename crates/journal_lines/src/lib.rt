@@ -2,11 +2,12 @@
 ghost use mathlib.Core.Path.{_≡_};
 ghost use mathlib.Core.List.{_++_};
 ghost use Prim.Native.Nat.{_+_, _/_, _%_, _<_, min};
+ghost use Rattle.journal.specs.declared.Written.the-variants as Written;
 ghost use Rattle.journal.specs.Write.{writes, writeOf};
 ghost use Rattle.journal_calls.specs.Fields.{countsIn, countsOf};
 ghost use Rattle.journal_calls.specs.Calls.{kindOf, frontOf};
 ghost use Rattle.hex_parse.specs.Lines.{no4};
-ghost use Rattle.journal_lines.specs.Lines.{placeOf, accessOf, entryOf, behindOf, writtenOf, keyed, headed, lineFor, lineOf};
+ghost use Rattle.journal_lines.specs.Lines.{placeOf, accessOf, entryOf, behindOf, longNumber, writtenOf, keyed, headed, lineFor, lineOf};
 use hex_parse::Call;
 use hex_parse::Line;
 use journal::Written;
@@ -111,6 +112,20 @@ fn entry_of(call: Call, room: u16, second: u16) -> journal_calls::Call
             size: _,
         } => journal_calls::Call::Unknown,
         Call::Show => journal_calls::Call::Unknown,
+        Call::Across {
+            direction: _,
+            connection: _,
+        } => journal_calls::Call::Unknown,
+        Call::WindowIn(_) => journal_calls::Call::Unknown,
+        Call::SealIn {
+            header: _,
+            direction: _,
+            connection: _,
+        } => journal_calls::Call::Unknown,
+        Call::OpenIn {
+            direction: _,
+            connection: _,
+        } => journal_calls::Call::Unknown,
     }
 }
 
@@ -159,7 +174,79 @@ fn behind_of(call: Call) -> Behind
             size: _,
         } => Behind::Octets,
         Call::Show => Behind::Octets,
+        Call::Across {
+            direction: _,
+            connection: _,
+        } => Behind::Octets,
+        Call::WindowIn(_) => Behind::Octets,
+        Call::SealIn {
+            header: _,
+            direction: _,
+            connection: _,
+        } => Behind::Octets,
+        Call::OpenIn {
+            direction: _,
+            connection: _,
+        } => Behind::Octets,
     }
+}
+
+// More octets than are held: 4 for a call, 1 for a line that a journal does not have.
+fn number_of(entry: journal_calls::Call) -> u8
+    ensures { λ r. ⌜ r ≡ longNumber entry ⌝ }
+{
+    match entry {
+        journal_calls::Call::Unknown => 1,
+        journal_calls::Call::New {
+            integrity: _,
+            ciphering: _,
+        } => 4,
+        journal_calls::Call::Restore {
+            integrity: _,
+            ciphering: _,
+        } => 4,
+        journal_calls::Call::Reselect {
+            integrity: _,
+            ciphering: _,
+        } => 4,
+        journal_calls::Call::Window(_) => 4,
+        journal_calls::Call::Seal {
+            header: _,
+            place: _,
+            room: _,
+        } => 4,
+        journal_calls::Call::Opaque {
+            header: _,
+            place: _,
+            room: _,
+        } => 4,
+        journal_calls::Call::Open {
+            place: _,
+            room: _,
+            second: _,
+        } => 4,
+        journal_calls::Call::EpsSeal(_) => 4,
+        journal_calls::Call::EpsOpen(_) => 4,
+        journal_calls::Call::N1ToS1 => 4,
+        journal_calls::Call::VerifyN1ToS1(_) => 4,
+        journal_calls::Call::S1ToN1 {
+            ncc: _,
+            ngksi: _,
+            room: _,
+        } => 4,
+        journal_calls::Call::VerifyS1ToN1 => 4,
+        journal_calls::Call::Initial {
+            connection: _,
+            room: _,
+        } => 4,
+    }
+}
+
+fn long_refusal(call: Call) -> Written
+    ensures { λ r. ⌜ r ≡ Written.Refused (longNumber (entryOf call 0 0)) ⌝ }
+{
+    let entry = entry_of(call, 0, 0);
+    Written::Refused(number_of(entry))
 }
 
 fn write_keys(entry: journal_calls::Call, ik: [u8; 16], ck: [u8; 16], out: &mut [u8]) -> Written
@@ -186,10 +273,10 @@ fn write_state(
 pub fn write(line: Line, octets: &[u8], out: &mut [u8]) -> Written
     ensures { λ r. ⌜ writes r (now (out .exit)) ≡ writtenOf line (now (octets .entry)) (now (out .entry)) ⌝ }
 {
-    if line.long {
-        return Written::Refused(4);
-    }
     let call = line.call;
+    if line.long {
+        return long_refusal(call);
+    }
     let ik = line.integrity_key;
     let ck = line.ciphering_key;
     let next = line.next;

@@ -66,6 +66,10 @@ places (hex.S1ToN1 p k) n m = tt
 places hex.VerifyS1ToN1 n m = tt
 places (hex.Raw i c w) n m = tt
 places hex.Show n m = tt
+places (hex.Across d k) n m = tt
+places (hex.WindowIn w) n m = tt
+places (hex.SealIn t d k) n m = tt
+places (hex.OpenIn d k) n m = tt
 
 -- keys and next COUNTs
 module _ (l : Line) (h : Held l) where
@@ -108,6 +112,10 @@ module _ (l : Line) (h : Held l) where
   same hex.VerifyS1ToN1 n m o x out second p = refl
   same (hex.Raw i c w) n m o x out second p = absurd (omega arith)
   same hex.Show n m o x out second p = absurd (omega arith)
+  same (hex.Across d k) n m o x out second p = absurd (omega arith)
+  same (hex.WindowIn w) n m o x out second p = absurd (omega arith)
+  same (hex.SealIn t d k) n m o x out second p = absurd (omega arith)
+  same (hex.OpenIn d k) n m o x out second p = absurd (omega arith)
 
 -- its rooms
 rooms : (e : Entry) (r : List ℕ) → (lineFor e r .room ≡ roomIn e) × (lineFor e r .second ≡ secondIn e)

@@ -8,7 +8,7 @@ use Rattle.nas_5gs.specs.declared.Context.{Context}
 use Rattle.nas_5gs.specs.Leaves.{LeavesTwo, leavesTwo, Values, refusal, success}
 use Rattle.hex_parse.specs.Lines.{noKey}
 use Rattle.hex_perform.specs.declared.Answer.{Answer}
-use Rattle.hex_perform.specs.declared.Answer.the-variants.{Bad, Done, Shown, Refused, Used, Made, Opened, Content, EpsContent, Received}
+use Rattle.hex_perform.specs.declared.Answer.the-variants.{Bad, Done, Shown, Refused, Used, Made, Opened, Content, EpsContent, Received, OpenedOn, ContentOn}
 use Rattle.hex_perform.specs.Perform.{directionOf, connectionOf}
 use Rattle.journal.specs.Items.{Item, call, skipped, items}
 use Rattle.journal_calls.specs.declared.Call.{Call as Entry}
@@ -85,7 +85,7 @@ abbrev pub givenIn : List Part → List (Outcome × List ℕ)
 givenIn [] = []
 givenIn (P ∷ ps) = given (beginning P) (P .calls) ++ ((makes (P .made), []) ∷ givenIn ps)
 
--- an answer that is printed, in the promises' values; `bad` and `show` answer no call
+-- an answer that is printed, in the promises' values; `bad`, `show` and what `across` answers are of no call of a journal
 abbrev pub valuesOf : Answer → List Values
 valuesOf Bad = []
 valuesOf Shown = []
@@ -97,6 +97,8 @@ valuesOf (Opened c d w t s) = record { refused = false; number = 0; uses = true;
 valuesOf (Content c d w t n) = record { refused = true; number = 8; uses = true; count = c; distance = d; wrote = w; second = 0; header = t; carried = n; octet = 0 } ∷ []
 valuesOf (EpsContent c d w n) = record { refused = true; number = 8; uses = true; count = c; distance = d; wrote = w; second = 0; header = 0; carried = n; octet = 0 } ∷ []
 valuesOf (Received c d w) = record { refused = false; number = 0; uses = true; count = c; distance = d; wrote = w; second = 0; header = 0; carried = 0; octet = 0 } ∷ []
+valuesOf (OpenedOn k c d w t s) = []
+valuesOf (ContentOn k c d w t n) = []
 
 abbrev pub told : LeavesTwo Answer → List (Outcome × List ℕ)
 told (leavesTwo a x out out2) = map (λ v. (record { values = v; context = x; output = out }, out2)) (valuesOf a)

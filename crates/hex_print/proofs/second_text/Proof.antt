@@ -45,11 +45,16 @@ returns-10 : tie.Need-returns-10
 unfolding secondText
 returns-10 c = (rw (c .enum-told9 .given .1) (laws.nothing _ _), omega arith)
 
+returns-11 : tie.Need-returns-11
+unfolding secondText
+returns-11 c = (rw (c .before .before .before .before .before .answer2 .given .1) (c .before .before .put-second3 .ensures .0), omega (arith, c .before .before .put-second3 .ensures .1))
+
+returns-12 : tie.Need-returns-12
+unfolding secondText
+returns-12 c = (rw (c .before .before .before .before .enum-told10 .given .1) (c .before .before .put-second4 .ensures .0), omega (arith, c .before .before .put-second4 .ensures .1))
+
 pub second-text-spec : {M : Type 1} → statement M
 second-text-spec =
     tie.close
     (tie.spec
-    (λ c. search needs) (λ c. search needs) (λ c. search needs) (λ c. search needs) (λ c. search needs)
-    (λ c. search needs) (λ c. search needs) (λ c κs. search needs) (λ c. search needs) (λ c κs. search needs)
-    (λ c. search needs) (λ c. search needs) returns returns-2 returns-3 returns-4 returns-5 returns-6
-    (λ c. search needs) returns-7 (λ c. search needs) returns-8 returns-9 returns-10)
+    (λ c. search needs) (λ c. search needs) (λ c. search needs) (λ c. search needs) (λ c. search needs) (λ c. search needs) (λ c. search needs) (λ c κs. search needs) (λ c. search needs) (λ c κs. search needs) (λ c. search needs) (λ c. search needs) (λ c. search needs) (λ c κs. search needs) (λ c. search needs) (λ c κs. search needs) returns returns-2 returns-3 returns-4 returns-5 returns-6 (λ c. search needs) returns-7 (λ c. search needs) returns-8 returns-9 returns-10 (λ c. search needs) returns-11 (λ c. search needs) returns-12)

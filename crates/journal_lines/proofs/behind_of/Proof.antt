@@ -53,10 +53,26 @@ returns-16 c = rw (c .enum-told16 .given .1)
 returns-17 : tie.Need-returns-17
 returns-17 c = rw (c .enum-told17 .given .1)
 
+returns-18 : tie.Need-returns-18
+returns-18 c = rw (c .enum-told18 .given .1)
+
+returns-19 : tie.Need-returns-19
+returns-19 c = rw (c .enum-told19 .given .1)
+
+returns-20 : tie.Need-returns-20
+returns-20 c = rw (c .enum-told20 .given .1)
+
+returns-21 : tie.Need-returns-21
+returns-21 c = rw (c .enum-told21 .given .1)
+
 pub behind-of-spec : {M : Type 1} → statement M
 behind-of-spec =
     tie.close
     (tie.spec
+    (λ c. search needs)
+    (λ c. search needs)
+    (λ c. search needs)
+    (λ c. search needs)
     (λ c. search needs)
     (λ c. search needs)
     (λ c. search needs)
@@ -90,4 +106,8 @@ behind-of-spec =
     returns-14
     returns-15
     returns-16
-    returns-17)
+    returns-17
+    returns-18
+    returns-19
+    returns-20
+    returns-21)

@@ -53,6 +53,18 @@ returns-16 c = rw (c .enum-told6 .given .1)
 returns-17 : tie.Need-returns-17
 returns-17 c = rw (c .enum-told7 .given .1)
 
+returns-18 : tie.Need-returns-18
+returns-18 c = rw (c .enum-told8 .given .1)
+
+returns-19 : tie.Need-returns-19
+returns-19 c = rw (c .enum-told9 .given .1)
+
+returns-20 : tie.Need-returns-20
+returns-20 c = rw (c .enum-told10 .given .1)
+
+returns-21 : tie.Need-returns-21
+returns-21 c = rw (c .enum-told11 .given .1)
+
 pub entry-of-spec : {M : Type 1} → statement M
 entry-of-spec =
     tie.close
@@ -78,6 +90,10 @@ entry-of-spec =
     (λ c. search needs)
     (λ c. search needs)
     (λ c. search needs)
+    (λ c. search needs)
+    (λ c. search needs)
+    (λ c. search needs)
+    (λ c. search needs)
     returns
     returns-2
     returns-3
@@ -94,4 +110,8 @@ entry-of-spec =
     returns-14
     returns-15
     returns-16
-    returns-17)
+    returns-17
+    returns-18
+    returns-19
+    returns-20
+    returns-21)

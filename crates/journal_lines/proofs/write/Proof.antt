@@ -9,7 +9,7 @@ use Rattle.journal_lines.proofs.write.Tie as tie
 
 returns : tie.Need-returns
 unfolding writtenOf
-returns c = simp (c .if1 .taken)
+returns c = simp (c .long-refusal .ensures, c .before .if1 .taken)
 
 returns-2 : tie.Need-returns-2
 unfolding entryIn
@@ -51,6 +51,7 @@ pub write-spec : {M : Type 1} → statement M
 write-spec =
     tie.close
     (tie.spec
+    (λ c κs. search needs)
     returns
     (λ c κs. search needs)
     (λ c κs. search needs)

@@ -18,7 +18,7 @@ returns-3 c = simp (c .plain .ensures, c .before .slot .ensures, sym (c .before 
 
 returns-4 : tie.Need-returns-4
 unfolding stateLine
-returns-4 c = simp (c .bad .ensures, sym (c .before .before .fits4 .ensures) ∙ c .before .if3 .left, sym (c .before .before .before .before .before .fits3 .ensures) ∙ c .before .before .before .before .if2 .left, sym (c .before .before .before .before .before .before .before .before .fits2 .ensures) ∙ c .before .before .before .before .before .before .before .if1 .left)
+returns-4 c = simp (c .across .ensures, sym (c .before .before .fits4 .ensures) ∙ c .before .if3 .left, sym (c .before .before .before .before .before .fits3 .ensures) ∙ c .before .before .before .before .if2 .left, sym (c .before .before .before .before .before .before .before .before .fits2 .ensures) ∙ c .before .before .before .before .before .before .before .if1 .left)
 
 pub state-spec : {M : Type 1} → statement M
 state-spec =

@@ -74,17 +74,24 @@ returns-17 : tie.Need-returns-17
 unfolding callOf
 returns-17 c = rw (c .enum-told6 .given .1)
 
+returns-18 : tie.Need-returns-18
+unfolding callOf
+returns-18 c = rw (c .before .before .before .before .before .before .before .before .call12 .given .1) (c .before .before .before .before .across .ensures)
+
+returns-19 : tie.Need-returns-19
+unfolding callOf
+returns-19 c = rw (c .before .before .call13 .given .1) (ap (keeping (now (c .before .before .before .before .before .before .before .before .before .before .before .args .out)) (now (c .before .before .before .before .before .before .before .before .before .before .before .args .second))) (c .window-in .ensures))
+
+returns-20 : tie.Need-returns-20
+unfolding callOf
+returns-20 c = rw (c .before .before .before .before .before .call14 .given .1) (ap (beside (now (c .before .before .before .before .before .before .before .before .before .before .before .before .before .before .args .second))) (c .before .before .seal-in .ensures))
+
+returns-21 : tie.Need-returns-21
+unfolding callOf
+returns-21 c = rw (c .before .before .before .before .before .before .before .before .call15 .given .1) (c .before .before .before .before .open-in .ensures)
+
 pub call-spec : {M : Type 1} → statement M
 call-spec =
     tie.close
     (tie.spec
-    (λ c. search needs) (λ c. search needs) (λ c κs. search needs) (λ c. search needs) (λ c κs. search needs)
-    (λ c. search needs) (λ c κs. search needs) (λ c. search needs) (λ c κs. search needs) (λ c. search needs)
-    (λ c κs. search needs) (λ c. search needs) (λ c κs. search needs) (λ c. search needs) (λ c κs. search needs)
-    (λ c. search needs) (λ c κs. search needs) (λ c. search needs) (λ c κs. search needs) (λ c. search needs)
-    (λ c κs. search needs) (λ c. search needs) (λ c κs. search needs) (λ c. search needs) (λ c κs. search needs)
-    (λ c. search needs) (λ c κs. search needs) (λ c. search needs) (λ c κs. search needs) (λ c. search needs)
-    (λ c κs. search needs) (λ c. search needs) returns returns-2 returns-3 returns-4 returns-5 (λ c. search needs)
-    returns-6 (λ c. search needs) returns-7 (λ c. search needs) returns-8 (λ c. search needs) (λ c. search needs)
-    returns-9 (λ c. search needs) returns-10 (λ c. search needs) returns-11 returns-12 returns-13 (λ c. search needs)
-    returns-14 returns-15 returns-16 returns-17)
+    (λ c. search needs) (λ c. search needs) (λ c κs. search needs) (λ c. search needs) (λ c κs. search needs) (λ c. search needs) (λ c κs. search needs) (λ c. search needs) (λ c κs. search needs) (λ c. search needs) (λ c κs. search needs) (λ c. search needs) (λ c κs. search needs) (λ c. search needs) (λ c κs. search needs) (λ c. search needs) (λ c κs. search needs) (λ c. search needs) (λ c κs. search needs) (λ c. search needs) (λ c κs. search needs) (λ c. search needs) (λ c κs. search needs) (λ c. search needs) (λ c κs. search needs) (λ c. search needs) (λ c κs. search needs) (λ c. search needs) (λ c κs. search needs) (λ c. search needs) (λ c κs. search needs) (λ c. search needs) (λ c. search needs) (λ c κs. search needs) (λ c. search needs) (λ c κs. search needs) (λ c. search needs) (λ c κs. search needs) (λ c. search needs) (λ c κs. search needs) returns returns-2 returns-3 returns-4 returns-5 (λ c. search needs) returns-6 (λ c. search needs) returns-7 (λ c. search needs) returns-8 (λ c. search needs) (λ c. search needs) returns-9 (λ c. search needs) returns-10 (λ c. search needs) returns-11 returns-12 returns-13 (λ c. search needs) returns-14 returns-15 returns-16 returns-17 (λ c. search needs) (λ c. search needs) returns-18 returns-19 (λ c. search needs) returns-20 (λ c. search needs) (λ c. search needs) returns-21)

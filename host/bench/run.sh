@@ -34,6 +34,7 @@ assemble() {
     cd "$build"
     rm -rf original security src aes_soft
     cp -a "$here/Cargo.toml" "$here/build.rs" "$here/src" "$here/security" "$here/aes_soft" .
+    cp -a "$root/differential/oracle/oxirush_security/src/numbers.rs" "$root/differential/oracle/oxirush_security/src/nas_5gs.rs" security/src
     mkdir -p original/src .cargo
     cp -a "$here/original/Cargo.toml" original
     cp -a "$here/original/lib.rs" "$root/differential/oracle/src/common" "$root/differential/oracle/src/nas_5gs" original/src

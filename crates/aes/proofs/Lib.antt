@@ -6,6 +6,9 @@ pub mod Stream
 pub mod Over
 pub mod Mac
 pub mod Counters
+pub mod Runs
+pub mod Chain
+pub mod Beside
 pub mod Octets
 pub mod Laws
 pub mod Parts

@@ -2,18 +2,19 @@
 -- Assumes nothing.
 use mathlib.Core.Path.{_≡_, refl, ap, ap₂, sym, _∙_}
 use mathlib.Core.List.{List, [], _∷_, _++_, zipWith}
-use Prim.Native.Nat.{ℕ, zero, suc, _+_, _*_, _/_, _%_, _<_, _≤_}
+use Prim.Native.Nat.{ℕ, zero, suc, _+_, _-_, _*_, _/_, _%_, _<_, _≤_}
 use native.Mathlib.Omega.{arith}
 use lib.Bits.{bitXor}
 use native.Mathlib.Nat.{add-zero}
 use native.Mathlib.Numerals.{towards-suc}
-use lib.ListN.{length, take, drop, getD, set, length-append, length-take, length-drop}
-use lib.Seq.{sets, sets-eq, getD-take, getD-drop}
+use native.Mathlib.Decide.{decLt}
+use lib.ListN.{length, take, drop, getD, set, length-append, length-take, length-drop, List·getD-append}
+use lib.Seq.{sets, sets-eq, getD-take, getD-drop, getD-append-add, length-take-le}
 use Rattle.aes.specs.Octets.{four, xor}
 use Rattle.aes.specs.Counter.{counter}
 use Rattle.aes_block.proofs.Tables.{table-at}
 use Rattle.aes_block.proofs.Lists.{by-places, xor-length, xor-at}
-use Rattle.aes.proofs.Stream.{under, begun, octet, ciphered}
+use Rattle.aes.proofs.Stream.{under, begun, begun-length, octet, ciphered}
 
 -- k over l from place i on
 unfoldable pub over : List ℕ → ℕ → List ℕ → List ℕ
@@ -59,6 +60,87 @@ join (x ∷ l) (y ∷ k) k′ zero zero e = absurd (omega arith)
 join (x ∷ l) (y ∷ k) k′ zero (suc j) e = ap (λ (r : List ℕ). bitXor x y ∷ r) (join l k k′ zero j (omega arith))
 join (x ∷ l) k k′ (suc i) zero e = absurd (omega arith)
 join (x ∷ l) k k′ (suc i) (suc j) e = ap (λ (r : List ℕ). x ∷ r) (join l k k′ i j (omega arith))
+
+over-none : (l : List ℕ) (i : ℕ) → over l i [] ≡ l
+unfolding over
+over-none [] i = refl
+over-none (x ∷ l) zero = refl
+over-none (x ∷ l) (suc i) = ap (λ (r : List ℕ). x ∷ r) (over-none l i)
+
+over-one : (l k : List ℕ) (i q j : ℕ) → j ≡ i + q → j < length l → q < length k
+    → set (over l i (take q k)) j (bitXor (getD (over l i (take q k)) j 0) (getD k q 0)) ≡ over l i (take (suc q) k)
+unfolding over
+over-one [] k i q j e h g = absurd (omega arith)
+over-one (x ∷ l) [] zero q j e h g = absurd (omega arith)
+over-one (x ∷ l) (y ∷ k) zero zero zero e h g = ap (λ (r : List ℕ). bitXor x y ∷ r) (sym (over-none l 0))
+over-one (x ∷ l) (y ∷ k) zero zero (suc j) e h g = absurd (omega arith)
+over-one (x ∷ l) (y ∷ k) zero (suc q) zero e h g = absurd (omega arith)
+over-one (x ∷ l) (y ∷ k) zero (suc q) (suc j) e h g =
+    ap (λ (r : List ℕ). bitXor x y ∷ r) (over-one l k zero q j (omega arith) (omega arith) (omega arith))
+over-one (x ∷ l) k (suc i) q zero e h g = absurd (omega arith)
+over-one (x ∷ l) k (suc i) q (suc j) e h g =
+    ap (λ (r : List ℕ). x ∷ r) (over-one l k i q j (omega arith) (omega arith) (omega arith))
+
+-- octet by octet from place i on: j is the next one's
+module _ (l k : List ℕ) (i : ℕ) where
+  pub over-begin : l ≡ over l i (take (i - i) k)
+  over-begin =
+      let e : i - i ≡ 0 = omega arith in
+      sym (ap (λ (n : ℕ). over l i (take n k)) e ∙ over-none l i)
+
+  pub over-next : (z : List ℕ) (j : ℕ) → i ≤ j → j < length l → j - i < length k → z ≡ over l i (take (j - i) k)
+      → set z j (bitXor (getD z j 0) (getD k (j - i) 0)) ≡ over l i (take (j + 1 - i) k)
+  over-next z j a b c e =
+      let n : suc (j - i) ≡ j + 1 - i = omega arith in
+      ap (λ (r : List ℕ). set r j (bitXor (getD r j 0) (getD k (j - i) 0))) e ∙
+      over-one l k i (j - i) j (omega arith) b c ∙
+      ap (λ (q : ℕ). over l i (take q k)) n
+
+xor-cut : (n : ℕ) (l k : List ℕ) → xor (take n l) k ≡ xor (take n l) (take n k)
+unfolding zipWith
+xor-cut zero l k = refl
+xor-cut (suc n) [] k = refl
+xor-cut (suc n) (x ∷ l) [] = refl
+xor-cut (suc n) (x ∷ l) (y ∷ k) = ap (λ (r : List ℕ). bitXor x y ∷ r) (xor-cut n l k)
+
+-- the first n of k
+pub parts-of : (l k : List ℕ) (i n p : ℕ) → n ≤ length k → p ≡ i + n → p ≤ length l
+    → take i l ++ xor (take n (drop i l)) k ++ drop p l ≡ over l i (take n k)
+parts-of l k i n p e f h =
+    ap (λ (z : List ℕ). take i l ++ z ++ drop p l) (xor-cut n (drop i l) k) ∙
+    parts l (take n k) i n p (sym (length-take-le n k e)) f h
+
+cut : (k k′ : List ℕ) (n n′ s : ℕ) → s ≡ n + n′ → n ≤ length k → (n < length k → n′ ≡ 0) → take s (k ++ k′) ≡ take n k ++ take n′ k′
+cut [] k′ zero n′ s e h g = let z : s ≡ n′ = omega arith in ap (λ (y : ℕ). take y k′) z
+cut [] k′ (suc n) n′ s e h g = absurd (omega arith)
+cut (x ∷ k) k′ zero n′ s e h g =
+    let z = g (omega arith) in
+    let y : s ≡ 0 = omega (arith, z) in
+    ap (λ (a : ℕ). take a (x ∷ k ++ k′)) y ∙ sym (ap (λ (a : ℕ). take a k′) z)
+cut (x ∷ k) k′ (suc n) n′ zero e h g = absurd (omega arith)
+cut (x ∷ k) k′ (suc n) n′ (suc s) e h g =
+    ap (λ (r : List ℕ). x ∷ r) (cut k k′ n n′ s (omega arith) (omega arith) (λ p. g (omega (arith, p))))
+
+-- a part of k from place i on and one of k′ behind it, from place j to p
+pub parts-two : (l l1 l2 k k′ : List ℕ) (i j p : ℕ) → i ≤ j → j ≤ p → p ≤ length l → j - i ≤ length k → p - j ≤ length k′
+    → (j - i < length k → p - j ≡ 0) → (a b : List ℕ) → a ≡ k → b ≡ k′
+    → l1 ≡ take i l ++ xor (take (j - i) (drop i l)) a ++ drop j l → l2 ≡ take j l1 ++ xor (take (p - j) (drop j l1)) b ++ drop p l1
+    → l2 ≡ take i l ++ xor (take (p - i) (drop i l)) (k ++ k′) ++ drop p l
+parts-two l l1 l2 k k′ i j p low high fits c d none a b x y e f =
+    let g : l1 ≡ over l i (take (j - i) k) =
+    e ∙
+    ap (λ (z : List ℕ). take i l ++ xor (take (j - i) (drop i l)) z ++ drop j l) x ∙
+    parts-of l k i (j - i) j c (omega arith) (omega arith) in
+    let n : length l1 ≡ length l = ap length g ∙ over-length l (take (j - i) k) i in
+    let s : length (take (j - i) k) ≡ j - i = length-take-le (j - i) k c in
+    let z : p - i ≤ length (k ++ k′) = omega (arith, length-append k k′) in
+    f ∙
+    ap (λ (z : List ℕ). take j l1 ++ xor (take (p - j) (drop j l1)) z ++ drop p l1) y ∙
+    parts-of l1 k′ j (p - j) p d (omega arith) (omega arith) ∙
+    ap (λ (r : List ℕ). over r j (take (p - j) k′)) g ∙
+    join l (take (j - i) k) (take (p - j) k′) i j (omega arith) ∙
+    ap (over l i) (sym (cut k k′ (j - i) (p - j) (p - i) (omega arith) c none)) ∙
+    sym (parts-of l (k ++ k′) i (p - i) p z (omega arith) fits)
 
 -- a part of the stream f laid over a list that is under it so far
 pub over-begun : (f : ℕ → ℕ) (j : ℕ) (l k : List ℕ) (i p : ℕ) → p ≡ i + length k → p ≤ length l
@@ -141,27 +223,6 @@ module _ (ciph : List ℕ → List ℕ) (sized : (b : List ℕ) → length (ciph
       over-begun (octet ciph sized t) 0 m k i p (omega (arith, sized (counter t n))) h
       (λ q g. in-block n i q a (omega (arith, sized (counter t n))))
 
-  -- two blocks more
-  pub turn-two : (m l l′ : List ℕ) (n : ℕ) → n * 32 + 32 ≤ length m → length l ≡ length m → l ≡ ciphered ciph sized t m (n * 32)
-      → l′ ≡ laid l (n * 32) (ciph (counter t (n * 2)) ++ ciph (counter t (n * 2 + 1))) 32 → l′ ≡ ciphered ciph sized t m ((n + 1) * 32)
-  turn-two m l l′ n h g e f =
-      let a = ciph (counter t (n * 2)) in
-      let b = ciph (counter t (n * 2 + 1)) in
-      let s : 32 ≡ length (a ++ b) = omega (arith, length-append a b, sized (counter t (n * 2)), sized (counter t (n * 2 + 1))) in
-      f ∙
-      parts l (a ++ b) (n * 32) 32 (n * 32 + 32) s refl (omega arith) ∙
-      sym (join l a b (n * 32) (n * 32 + 16) (omega (arith, sized (counter t (n * 2))))) ∙
-      turn-one m (over l (n * 32) a) (n * 2 + 1) (n * 32 + 16) ((n + 1) * 32) (omega arith) (omega arith) (omega arith)
-      (turn-one m l (n * 2) (n * 32) (n * 32 + 16) (omega arith) (omega arith) (omega arith) e)
-
-  pub turn-length : (l l′ : List ℕ) (n : ℕ) → n * 32 + 32 ≤ length l
-      → l′ ≡ laid l (n * 32) (ciph (counter t (n * 2)) ++ ciph (counter t (n * 2 + 1))) 32 → length l′ ≡ length l
-  turn-length l l′ n h f =
-      let a = ciph (counter t (n * 2)) in
-      let b = ciph (counter t (n * 2 + 1)) in
-      let s : 32 ≡ length (a ++ b) = omega (arith, length-append a b, sized (counter t (n * 2)), sized (counter t (n * 2 + 1))) in
-      ap length (f ∙ parts l (a ++ b) (n * 32) 32 (n * 32 + 32) s refl h) ∙ over-length l (a ++ b) (n * 32)
-
   pub turn-block : (m l l′ : List ℕ) (i : ℕ) → i % 16 ≡ 0 → i + 16 ≤ length m → length l ≡ length m → l ≡ ciphered ciph sized t m i
       → l′ ≡ laid l i (ciph (counter t (i / 16))) 16 → l′ ≡ ciphered ciph sized t m (i + 16)
   turn-block m l l′ i z h g e f =
@@ -171,7 +232,35 @@ module _ (ciph : List ℕ → List ℕ) (sized : (b : List ℕ) → length (ciph
       parts l k i 16 (i + 16) s refl (omega arith) ∙
       turn-one m l (i / 16) i (i + 16) (omega arith) refl h e
 
-  pub block-length : (l l′ : List ℕ) (i : ℕ) → i + 16 ≤ length l → l′ ≡ laid l i (ciph (counter t (i / 16))) 16 → length l′ ≡ length l
-  block-length l l′ i h f =
-      let k = ciph (counter t (i / 16)) in
-      ap length (f ∙ parts l k i 16 (i + 16) (sym (sized (counter t (i / 16)))) refl h) ∙ over-length l k i
+  in-two : (k k′ : List ℕ) (n i s q : ℕ) → i ≡ n * 16 → s ≤ 32 → k ≡ ciph (counter t n) → (16 < s → k′ ≡ ciph (counter t (n + 1))) → q < s
+      → getD (k ++ k′) q 0 ≡ octet ciph sized t (0 + i + q)
+  in-two k k′ n i s q a b e f g = go (decLt q 16)
+    where
+      u : length k ≡ 16
+      u = ap length e ∙ sized (counter t n)
+
+      go : Dec (q < 16) → getD (k ++ k′) q 0 ≡ octet ciph sized t (0 + i + q)
+      go (yes h) = List·getD-append k k′ 0 q (omega (arith, u)) ∙ ap (λ (z : List ℕ). getD z q 0) e ∙ in-block n i q a h
+      go (no h) =
+          let x : q ≡ length k + (q - 16) = omega (arith, u) in
+          let y : 0 + (i + 16) + (q - 16) ≡ 0 + i + q = omega arith in
+          ap (λ (z : ℕ). getD (k ++ k′) z 0) x ∙
+          getD-append-add k k′ (q - 16) 0 ∙
+          ap (λ (z : List ℕ). getD z (q - 16) 0) (f (omega arith)) ∙
+          in-block (n + 1) (i + 16) (q - 16) (omega arith) (omega arith) ∙
+          ap (octet ciph sized t) y
+
+  -- r octets of two blocks more: what stands for the second one matters only where they reach into it
+  pub more : (m l k k′ : List ℕ) (n i r p : ℕ) → i ≡ n * 16 → p ≡ i + r → r ≤ 32 → p ≤ length l → k ≡ ciph (counter t n) → length k′ ≡ 16
+      → (16 < r → k′ ≡ ciph (counter t (n + 1))) → l ≡ ciphered ciph sized t m i
+      → take i l ++ xor (take r (drop i l)) (k ++ k′) ++ drop p l ≡ ciphered ciph sized t m p
+  more m l k k′ n i r p a b c d e u f h =
+      let s : r ≤ length (k ++ k′) = omega (arith, length-append k k′, ap length e, sized (counter t n)) in
+      let g : length l ≡ length m = ap length h ∙ begun-length (octet ciph sized t) 0 m i in
+      let v : length (take r (k ++ k′)) ≡ r = length-take-le r (k ++ k′) s in
+      parts-of l (k ++ k′) i r p s b d ∙
+      ap (λ (z : List ℕ). over z i (take r (k ++ k′))) h ∙
+      over-begun (octet ciph sized t) 0 m (take r (k ++ k′)) i p (omega arith) (omega arith)
+      (λ q x.
+      let y : q < r = omega (arith, x, v) in
+      getD-take r (k ++ k′) q 0 y ∙ in-two k k′ n i r q a c e f y)

@@ -2,14 +2,18 @@
 ghost use mathlib.Core.Path.{_≡_};
 ghost use mathlib.Core.Bool.{cond};
 ghost use mathlib.Core.List.{_∷_, [], _++_};
-ghost use Prim.Native.Nat.{_+_, _-_, _*_, _/_, _%_, _^_, _<_};
+ghost use Prim.Native.Nat.{_+_, _-_, _*_, _/_, _%_, _^_, _≤_, _<_};
 ghost use lib.ListN.{length, getD};
 ghost use Rattle.aes.specs.Octets.{sixteen, xor};
 ghost use Rattle.aes_block.specs.Mix.{mixTable};
-ghost use Rattle.aes.specs.Cipher.{cipher};
-ghost use Rattle.aes.specs.Cmac.{shiftLeft, double as doubleOf, subkey1, cmacBy, cmacOf};
-use aes_block::encrypt_with;
+ghost use Rattle.aes.specs.Cipher.{toState, fromState, cipher};
+ghost use Rattle.aes.specs.Cmac.{shiftLeft, double as doubleOf, subkey1, chain, cmacBy, cmacOf};
+ghost use Rattle.aes.specs.Parts.{chainBlock, ofHalves};
+use crate::counter_mode::low64;
+use aes_block::encrypt_state;
 use aes_block::mix_table;
+use aes_block::to_state;
+use aes_block::xor_states;
 
 const R128: [u8; 16] = [0, 0, 0, 0, 0, 0, 0, 0, 0, 0, 0, 0, 0, 0, 0, 135];
 
@@ -115,97 +119,102 @@ fn gathered_block(head: &[u8], message: &[u8], k: usize) -> [u8; 16]
     ]
 }
 
-fn sixteen_at(m: &[u8], i: usize) -> [u8; 16]
+// 16 octets of a message from i on.
+pub fn state_at(m: &[u8], i: usize) -> [[u8; 4]; 4]
     requires { ⌜ i + 15 < length (now m) ⌝ }
-    ensures { λ r. ⌜ r ≡ sixteen (λ j. getD (now (m .entry)) (i + j) 0) ⌝ }
+    ensures { λ r. ⌜ r ≡ toState (sixteen (λ j. getD (now (m .entry)) (i + j) 0)) ⌝ }
 {
     [
-        m[i],
-        m[i + 1],
-        m[i + 2],
-        m[i + 3],
-        m[i + 4],
-        m[i + 5],
-        m[i + 6],
-        m[i + 7],
-        m[i + 8],
-        m[i + 9],
-        m[i + 10],
-        m[i + 11],
-        m[i + 12],
-        m[i + 13],
-        m[i + 14],
-        m[i + 15],
+        [m[i], m[i + 1], m[i + 2], m[i + 3]],
+        [m[i + 4], m[i + 5], m[i + 6], m[i + 7]],
+        [m[i + 8], m[i + 9], m[i + 10], m[i + 11]],
+        [m[i + 12], m[i + 13], m[i + 14], m[i + 15]],
     ]
 }
 
-// The first block: at once where 8 octets of it are the head and 8 the message's, as in 128-NIA2.
-fn first_block(head: &[u8], message: &[u8]) -> [u8; 16]
-    ensures { λ r. ⌜ r ≡ sixteen (λ j. getD (now (head .entry) ++ now (message .entry) ++ (128 ∷ [])) j 0) ⌝ }
+// A block that the head is in: at once where 8 octets of it are the head and 8 the message's, as in 128-NIA2.
+fn early_state(head: &[u8], message: &[u8], k: usize) -> [[u8; 4]; 4]
+    requires { ⌜ k < length (now head) ⌝ }
+    ensures { λ r. ⌜ r ≡ toState (sixteen (λ j. getD (now (head .entry) ++ now (message .entry) ++ (128 ∷ [])) (k + j) 0)) ⌝ }
 {
     if head.len() != 8 {
-        return gathered_block(head, message, 0);
+        return to_state(gathered_block(head, message, k));
     }
     if message.len() < 8 {
-        return gathered_block(head, message, 0);
+        return to_state(gathered_block(head, message, k));
+    }
+    if k != 0 {
+        return to_state(gathered_block(head, message, k));
     }
     [
-        head[0],
-        head[1],
-        head[2],
-        head[3],
-        head[4],
-        head[5],
-        head[6],
-        head[7],
-        message[0],
-        message[1],
-        message[2],
-        message[3],
-        message[4],
-        message[5],
-        message[6],
-        message[7],
+        [head[0], head[1], head[2], head[3]],
+        [head[4], head[5], head[6], head[7]],
+        [message[0], message[1], message[2], message[3]],
+        [message[4], message[5], message[6], message[7]],
     ]
 }
 
-// 16 octets of the head and the message from k on: at once where they all lie in the message.
-fn block_at(head: &[u8], message: &[u8], k: usize) -> [u8; 16]
-    requires { ⌜ k + 15 < 2 ^ 64 ⌝ }
-    ensures { λ r. ⌜ r ≡ sixteen (λ j. getD (now (head .entry) ++ now (message .entry) ++ (128 ∷ [])) (k + j) 0) ⌝ }
+// The octets of a message from i on, at most 16, and the padding's bit 1 and zeros behind them.
+fn padded_block(message: &[u8], i: usize) -> [u8; 16]
+    requires { ⌜ (i ≤ length (now message)) × (length (now message) ≤ i + 16) ⌝ }
+    ensures { λ r. ⌜ r ≡ sixteen (λ j. getD (now (message .entry) ++ (128 ∷ [])) (i + j) 0) ⌝ }
 {
-    if k == 0 {
-        return first_block(head, message);
+    let rest = message.len() - i;
+    let mut b = [0u8; 16];
+    let mut j = 0;
+    while j < rest {
+        b[j] = message[i + j];
+        j += 1;
     }
-    if k < head.len() {
-        return gathered_block(head, message, k);
+    if rest < 16 {
+        b[rest] = 128;
     }
-    let i = k - head.len();
-    if message.len() < 16 {
-        return gathered_block(head, message, k);
-    }
-    if message.len() - 16 < i {
-        return gathered_block(head, message, k);
-    }
-    sixteen_at(message, i)
+    b
 }
 
-pub fn subkey(table: &[u64; 256], w: &[u8; 176]) -> [u8; 16]
-    requires { ⌜ now table ≡ mixTable ⌝ }
-    ensures { λ r. ⌜ r ≡ subkey1 (cipher (now (w .entry))) ⌝ }
+// The last block, which begins at k, with the padding.
+fn last_block(head: &[u8], message: &[u8], k: usize) -> [u8; 16]
+    requires { ⌜ (k ≤ length (now head) + length (now message)) × (length (now head) + length (now message) ≤ k + 16) ⌝ }
+    ensures { λ r. ⌜ r ≡ sixteen (λ j. getD (now (head .entry) ++ now (message .entry) ++ (128 ∷ [])) (k + j) 0) ⌝ }
 {
-    double(encrypt_with(table, w, [0u8; 16]))
+    if k < head.len() {
+        gathered_block(head, message, k)
+    } else {
+        padded_block(message, k - head.len())
+    }
 }
 
 // The last block with the subkey for a whole one, or for one that was padded.
-fn keyed_block(k1: [u8; 16], k2: [u8; 16], b: [u8; 16], whole: bool) -> [u8; 16]
-    ensures { λ r. ⌜ r ≡ cond whole (xor k1 b) (xor k2 b) ⌝ }
+fn keyed_state(k1: [u8; 16], k2: [u8; 16], b: [u8; 16], whole: bool) -> [[u8; 4]; 4]
+    ensures { λ r. ⌜ r ≡ toState (cond whole (xor k1 b) (xor k2 b)) ⌝ }
 {
     if whole {
-        xor_block(k1, b)
+        xor_states(to_state(k1), to_state(b))
     } else {
-        xor_block(k2, b)
+        xor_states(to_state(k2), to_state(b))
     }
+}
+
+// Block i of the chain, of which n come before the last.
+fn chain_state(
+    k1: [u8; 16],
+    k2: [u8; 16],
+    head: &[u8],
+    message: &[u8],
+    n: usize,
+    i: usize,
+) -> [[u8; 4]; 4]
+    requires { ⌜ (i ≤ n) × (n ≡ (length (now head) + length (now message) - 1) / 16) ⌝ }
+    ensures { λ r. ⌜ r ≡ toState (chainBlock k1 k2 (now (head .entry) ++ now (message .entry)) i) ⌝ }
+{
+    if i == n {
+        let whole = head.len() + message.len() - n * 16 == 16;
+        return keyed_state(k1, k2, last_block(head, message, n * 16), whole);
+    }
+    if i * 16 < head.len() {
+        return early_state(head, message, i * 16);
+    }
+    state_at(message, i * 16 - head.len())
 }
 
 // How many blocks come before the last one.
@@ -215,6 +224,40 @@ fn blocks_before_last(octets: usize) -> usize
     if octets == 0 { 0 } else { (octets - 1) / 16 }
 }
 
+// The CMAC from block `from` on, where x is what the blocks before have made, as two numbers: octets would be taken for a vector, and
+// the chain with them.
+pub fn cmac_from(
+    table: &[u64; 256],
+    w: &[u8; 176],
+    k1: [u8; 16],
+    k2: [u8; 16],
+    head: &[u8],
+    message: &[u8],
+    x: [[u8; 4]; 4],
+    from: usize,
+) -> [u64; 2]
+    requires { ⌜ (now table ≡ mixTable) × (from ≤ (length (now head) + length (now message) - 1) / 16) × (fromState x ≡ chain (cipher (now w)) (now head ++ now message) from) ⌝ }
+    ensures { λ r. ⌜ ofHalves r ≡ cmacBy (cipher (now (w .entry))) k1 k2 (now (head .entry) ++ now (message .entry)) ⌝ }
+{
+    let n = blocks_before_last(head.len() + message.len());
+    let mut x = x;
+    let mut i = from;
+    while i <= n {
+        let b = chain_state(k1, k2, head, message, n, i);
+        let next = encrypt_state(table, w, xor_states(x, b));
+        x = next;
+        i += 1;
+    }
+    let a = x[0];
+    let b = x[1];
+    let c = x[2];
+    let d = x[3];
+    [
+        low64(a[0], a[1], a[2], a[3], b[0], b[1], b[2], b[3]),
+        low64(c[0], c[1], c[2], c[3], d[0], d[1], d[2], d[3]),
+    ]
+}
+
 pub fn cmac_with(
     table: &[u64; 256],
     w: &[u8; 176],
@@ -222,24 +265,47 @@ pub fn cmac_with(
     k2: [u8; 16],
     head: &[u8],
     message: &[u8],
-) -> [u8; 16]
+) -> [u64; 2]
     requires { ⌜ now table ≡ mixTable ⌝ }
-    ensures { λ r. ⌜ r ≡ cmacBy (cipher (now (w .entry))) k1 k2 (now (head .entry) ++ now (message .entry)) ⌝ }
+    ensures { λ r. ⌜ ofHalves r ≡ cmacBy (cipher (now (w .entry))) k1 k2 (now (head .entry) ++ now (message .entry)) ⌝ }
 {
-    let length = head.len() + message.len();
-    let n = blocks_before_last(length);
-    let mut x = [0u8; 16];
-    let mut done = 0;
-    while done < n {
-        let b = block_at(head, message, done * 16);
-        let next = encrypt_with(table, w, xor_block(x, b));
-        x = next;
-        done += 1;
-    }
-    // `block_at` is called at one place, so that it is inlined there.
-    let b = gathered_block(head, message, n * 16);
-    let last = keyed_block(k1, k2, b, length - n * 16 == 16);
-    encrypt_with(table, w, xor_block(x, last))
+    cmac_from(table, w, k1, k2, head, message, [[0u8; 4]; 4], 0)
+}
+
+// The block of two numbers.
+fn block_of(h: [u64; 2]) -> [u8; 16]
+    ensures { λ r. ⌜ r ≡ ofHalves h ⌝ }
+{
+    let a = h[0];
+    let b = h[1];
+    [
+        (a / 0x100_0000_0000_0000 % 256) as u8,
+        (a / 0x1_0000_0000_0000 % 256) as u8,
+        (a / 0x100_0000_0000 % 256) as u8,
+        (a / 0x1_0000_0000 % 256) as u8,
+        (a / 0x100_0000 % 256) as u8,
+        (a / 0x1_0000 % 256) as u8,
+        (a / 0x100 % 256) as u8,
+        (a % 256) as u8,
+        (b / 0x100_0000_0000_0000 % 256) as u8,
+        (b / 0x1_0000_0000_0000 % 256) as u8,
+        (b / 0x100_0000_0000 % 256) as u8,
+        (b / 0x1_0000_0000 % 256) as u8,
+        (b / 0x100_0000 % 256) as u8,
+        (b / 0x1_0000 % 256) as u8,
+        (b / 0x100 % 256) as u8,
+        (b % 256) as u8,
+    ]
+}
+
+// 6.1: the cipher of a block of zeros, doubled. That cipher is the CMAC of the block where both subkeys are zeros: so a block is ciphered
+// at one place, and inlined there.
+pub fn subkey(table: &[u64; 256], w: &[u8; 176]) -> [u8; 16]
+    requires { ⌜ now table ≡ mixTable ⌝ }
+    ensures { λ r. ⌜ r ≡ subkey1 (cipher (now (w .entry))) ⌝ }
+{
+    let z = [0u8; 8];
+    double(block_of(cmac_with(table, w, [0u8; 16], [0u8; 16], &z, &z)))
 }
 
 // The CMAC of a head and a message behind it, under an expanded key.
@@ -249,5 +315,5 @@ pub fn cmac(w: &[u8; 176], head: &[u8], message: &[u8]) -> [u8; 16]
     let table = mix_table();
     let k1 = subkey(&table, w);
     let k2 = double(k1);
-    cmac_with(&table, w, k1, k2, head, message)
+    block_of(cmac_with(&table, w, k1, k2, head, message))
 }

@@ -1,24 +1,22 @@
 // SP 800-38A 6.5: counter mode, two blocks at a time.
 ghost use mathlib.Core.Path.{_≡_};
-ghost use mathlib.Core.Logic.{_⊎_};
-ghost use mathlib.Core.List.{_∷_, [], _++_};
-ghost use Prim.Native.Nat.{_+_, _-_, _/_, _%_, _^_, _<_};
+ghost use mathlib.Core.List.{List, _∷_, [], _++_};
+ghost use Prim.Native.Nat.{ℕ, _+_, _-_, _*_, _%_, _≤_, _<_};
 ghost use lib.ListN.{length, take, drop, getD};
 ghost use Rattle.aes.specs.Octets.{four, xor, octets, number};
 ghost use Rattle.aes.specs.Cipher.{fromState, cipher};
 ghost use Rattle.aes_block.specs.Mix.{mixTable, Shared};
 ghost use Rattle.aes.specs.Counter.{counter, ctrOf};
-use aes_block::encrypt_with;
+use aes_block::from_state;
 use aes_block::left;
 use aes_block::mix_table;
 use aes_block::right;
+use aes_block::second_state;
 use aes_block::shared;
-use aes_block::to_state;
-use aes_block::two_last;
-use aes_block::two_to_9;
+use aes_block::two_states;
 
-// The number in the last 8 octets of a block.
-fn low64(a: u8, b: u8, c: u8, d: u8, e: u8, f: u8, g: u8, h: u8) -> u64
+// The number that 8 octets write.
+pub fn low64(a: u8, b: u8, c: u8, d: u8, e: u8, f: u8, g: u8, h: u8) -> u64
     ensures { λ r. ⌜ r ≡ number (a ∷ b ∷ c ∷ d ∷ e ∷ f ∷ g ∷ h ∷ []) ⌝ }
 {
     a as u64 * 0x100_0000_0000_0000
@@ -54,7 +52,7 @@ fn numbered(t: [u8; 16], n: u64) -> [u8; 16]
     ]
 }
 
-fn counter_block(t: [u8; 16], n: usize) -> [u8; 16]
+pub fn counter_block(t: [u8; 16], n: usize) -> [u8; 16]
     ensures { λ r. ⌜ r ≡ counter t n ⌝ }
 {
     let base = low64(t[8], t[9], t[10], t[11], t[12], t[13], t[14], t[15]);
@@ -75,7 +73,7 @@ fn xor_four(m: &mut [u8], i: usize, k: [u8; 4])
     m[i + 3] = d;
 }
 
-fn xor_state(m: &mut [u8], i: usize, s: [[u8; 4]; 4])
+pub fn xor_state(m: &mut [u8], i: usize, s: [[u8; 4]; 4])
     requires { ⌜ i + 15 < length (now m) ⌝ }
     ensures { λ r. ⌜ now (m .exit) ≡ take i (now (m .entry)) ++ xor (take 16 (drop i (now (m .entry)))) (fromState s) ++ drop (i + 16) (now (m .entry)) ⌝ }
 {
@@ -89,76 +87,82 @@ fn xor_state(m: &mut [u8], i: usize, s: [[u8; 4]; 4])
     xor_four(m, i + 12, d);
 }
 
-// What block n shares with others.
-fn made_at(table: &[u64; 256], w: &[u8; 176], t: [u8; 16], n: usize) -> [[u8; 4]; 5]
-    requires { ⌜ now table ≡ mixTable ⌝ }
-    ensures { λ r. ⌜ Shared (now (w .entry)) (counter t n) r ⌝ }
+// Octets i to end of a message, at most 16, under as many of an output block.
+fn xor_part(m: &mut [u8], i: usize, end: usize, k: [u8; 16])
+    requires { ⌜ (i ≤ end) × (end ≤ length (now m)) × (end - i ≤ 16) ⌝ }
+    ensures { λ r. ⌜ now (m .exit) ≡ take i (now (m .entry)) ++ xor (take (end - i) (drop i (now (m .entry)))) k ++ drop end (now (m .entry)) ⌝ }
 {
-    shared(table, w, counter_block(t, n))
+    let mut j = i;
+    while j < end {
+        let q = j - i;
+        m[j] = m[j] ^ k[q];
+        j += 1;
+    }
 }
 
-// The same, kept from the block before unless the last octet begins anew.
-fn shared_at(
-    table: &[u64; 256],
-    w: &[u8; 176],
-    t: [u8; 16],
-    kept: [[u8; 4]; 5],
-    n: usize,
-) -> [[u8; 4]; 5]
-    requires { ⌜ (now table ≡ mixTable) × ((n ≡ 0) ⊎ Shared (now w) (counter t (n - 1)) kept) ⌝ }
-    ensures { λ r. ⌜ Shared (now (w .entry)) (counter t n) r ⌝ }
+// The same under two output blocks: at most 32 octets.
+fn xor_rest(m: &mut [u8], i: usize, end: usize, s: [[u8; 4]; 8])
+    requires { ⌜ (i ≤ end) × (end ≤ length (now m)) × (end - i ≤ 32) ⌝ }
+    ensures { λ r. ⌜ now (m .exit) ≡ take i (now (m .entry)) ++ xor (take (end - i) (drop i (now (m .entry)))) (fromState (four (λ c. getD s c [])) ++ fromState (four (λ c. getD s (c + 4) []))) ++ drop end (now (m .entry)) ⌝ }
 {
-    if n == 0 {
-        return made_at(table, w, t, n);
-    }
-    let b = counter_block(t, n);
-    if b[15] == 0 {
-        return made_at(table, w, t, n);
-    }
-    kept
+    let middle = if end - i < 16 { end } else { i + 16 };
+    xor_part(m, i, middle, from_state(left(s)));
+    xor_part(m, middle, end, from_state(right(s)));
 }
 
-// Blocks n and n + 1 of a message, which begin at i and share g and h with others.
-fn ctr_two(
+// Blocks n and on, to octet end of a message: they share g, and what lies before is under the key stream already.
+fn ctr_run(
     table: &[u64; 256],
     w: &[u8; 176],
     t: [u8; 16],
     g: [[u8; 4]; 5],
-    h: [[u8; 4]; 5],
     m: &mut [u8],
     n: usize,
-    i: usize,
+    end: usize,
 )
-    requires { ⌜ (now table ≡ mixTable) × (i + 31 < length (now m)) × (n + 1 < 2 ^ 64) × Shared (now w) (counter t n) g × Shared (now w) (counter t (n + 1)) h ⌝ }
-    ensures { λ r. ⌜ now (m .exit) ≡ take i (now (m .entry)) ++ xor (take 32 (drop i (now (m .entry)))) (cipher (now (w .entry)) (counter t n) ++ cipher (now (w .entry)) (counter t (n + 1))) ++ drop (i + 32) (now (m .entry)) ⌝ }
+    requires { ⌜ (now table ≡ mixTable) × Shared (now w) (counter t n) g × (n * 16 ≤ end) × (end ≤ length (now m)) × (end + getD (counter t n) 15 0 * 16 ≤ n * 16 + 4096) ⌝ }
+    ensures { λ r. ⌜ ((l : List ℕ) → now (m .entry) ≡ ctrOf (cipher (now (w .entry))) t (take (n * 16) l) ++ drop (n * 16) l → now (m .exit) ≡ ctrOf (cipher (now (w .entry))) t (take end l) ++ drop end l) ⌝ }
 {
-    let p = counter_block(t, n);
-    let s = two_last(
-        table,
-        w,
-        two_to_9(table, w, g, h, p, counter_block(t, n + 1)),
-    );
-    xor_state(m, i, left(s));
-    xor_state(m, i + 16, right(s));
+    let b = counter_block(t, n);
+    let mut o = b[15];
+    let mut i = n * 16;
+    while i < end {
+        let p = second_state(table, w, g, o);
+        let q = second_state(table, w, g, std::num::wrapping_add_u8(o, 1));
+        let s = two_states(table, w, w, p, q);
+        if 32 <= end - i {
+            xor_state(m, i, left(s));
+            xor_state(m, i + 16, right(s));
+            i += 32;
+        } else {
+            xor_rest(m, i, end, s);
+            i = end;
+        }
+        o = std::num::wrapping_add_u8(o, 2);
+    }
 }
 
-// Block n of a message, which begins at i.
-fn ctr_one(table: &[u64; 256], w: &[u8; 176], t: [u8; 16], m: &mut [u8], n: usize, i: usize)
-    requires { ⌜ (now table ≡ mixTable) × (i + 15 < length (now m)) ⌝ }
-    ensures { λ r. ⌜ now (m .exit) ≡ take i (now (m .entry)) ++ xor (take 16 (drop i (now (m .entry)))) (cipher (now (w .entry)) (counter t n)) ++ drop (i + 16) (now (m .entry)) ⌝ }
+// Where the blocks from octet i on end that differ in the last octet alone, or `end` if that comes before: o is the first one's.
+pub fn run_end(o: u8, i: usize, end: usize) -> usize
+    requires { ⌜ i ≤ end ⌝ }
+    ensures { λ r. ⌜ (r ≤ end) × (r + o * 16 ≤ i + 4096) × (i < end → i < r) × (i % 16 ≡ 0 → end % 16 ≡ 0 → r % 16 ≡ 0) × (i % 16 ≡ 0 → r < end → r % 16 ≡ 0) ⌝ }
 {
-    xor_state(m, i, to_state(encrypt_with(table, w, counter_block(t, n))));
+    let run = (256 - o as usize) * 16;
+    if end - i < run { end } else { i + run }
 }
 
-// The output block that octet i of a message lies in, where there is such an octet.
-fn tail_block(table: &[u64; 256], w: &[u8; 176], t: [u8; 16], i: usize, end: usize) -> [u8; 16]
-    requires { ⌜ now table ≡ mixTable ⌝ }
-    ensures { λ r. ⌜ (i < end → r ≡ cipher (now (w .entry)) (counter t (i / 16))) ⌝ }
+// Blocks n and on, to octet end of a message, where what lies before is under the key stream already.
+pub fn ctr_to(table: &[u64; 256], w: &[u8; 176], t: [u8; 16], m: &mut [u8], n: usize, end: usize)
+    requires { ⌜ (now table ≡ mixTable) × (n * 16 ≤ end) × (end ≤ length (now m)) ⌝ }
+    ensures { λ r. ⌜ ((l : List ℕ) → now (m .entry) ≡ ctrOf (cipher (now (w .entry))) t (take (n * 16) l) ++ drop (n * 16) l → now (m .exit) ≡ ctrOf (cipher (now (w .entry))) t (take end l) ++ drop end l) ⌝ }
 {
-    if i < end {
-        encrypt_with(table, w, counter_block(t, i / 16))
-    } else {
-        [0u8; 16]
+    let mut i = n * 16;
+    while i < end {
+        let b = counter_block(t, i / 16);
+        let g = shared(table, w, b);
+        let next = run_end(b[15], i, end);
+        ctr_run(table, w, t, g, m, i / 16, next);
+        i = next;
     }
 }
 
@@ -166,27 +170,7 @@ pub fn ctr_with(table: &[u64; 256], w: &[u8; 176], t: [u8; 16], m: &mut [u8])
     requires { ⌜ now table ≡ mixTable ⌝ }
     ensures { λ r. ⌜ now (m .exit) ≡ ctrOf (cipher (now (w .entry))) t (now (m .entry)) ⌝ }
 {
-    let n = m.len() / 32;
-    let mut kept = [[0u8; 4]; 5];
-    let mut done = 0;
-    while done < n {
-        let g = shared_at(table, w, t, kept, done * 2);
-        let next = shared_at(table, w, t, g, done * 2 + 1);
-        kept = next;
-        ctr_two(table, w, t, g, kept, m, done * 2, done * 32);
-        done += 1;
-    }
-    let mut i = n * 32;
-    while 16 <= m.len() - i {
-        ctr_one(table, w, t, m, i / 16, i);
-        i += 16;
-    }
-    let output = tail_block(table, w, t, i, m.len());
-    while i < m.len() {
-        let j = i % 16;
-        m[i] = m[i] ^ output[j];
-        i += 1;
-    }
+    ctr_to(table, w, t, m, 0, m.len());
 }
 
 // Counter mode in place, under an expanded key and from the first counter block t.

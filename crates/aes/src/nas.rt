@@ -8,9 +8,12 @@ ghost use Rattle.aes_block.specs.Mix.{mixTable};
 ghost use Rattle.aes.specs.Counter.{ctrOf};
 ghost use Rattle.aes.specs.Nas.{head as headOf};
 ghost use Rattle.aes.specs.Keys.{nia2By, nea2By};
+ghost use Rattle.aes.specs.Parts.{ofHalves};
 use crate::Key;
+use crate::cmac_mode::cmac_from;
 use crate::cmac_mode::cmac_with;
 use crate::counter_mode::ctr_with;
+use crate::sealing::cipher_and_chain;
 use aes_block::mix_table;
 
 fn head(count: u32, bearer: u8, direction: u8) -> [u8; 8]
@@ -28,7 +31,21 @@ fn head(count: u32, bearer: u8, direction: u8) -> [u8; 8]
     ]
 }
 
-fn nia2_with(
+// The code of two numbers that a CMAC is: its first four octets.
+fn code_of(h: [u64; 2]) -> [u8; 4]
+    ensures { λ r. ⌜ r ≡ take 4 (ofHalves h) ⌝ }
+{
+    let a = h[0];
+    [
+        (a / 0x100_0000_0000_0000 % 256) as u8,
+        (a / 0x1_0000_0000_0000 % 256) as u8,
+        (a / 0x100_0000_0000 % 256) as u8,
+        (a / 0x1_0000_0000 % 256) as u8,
+    ]
+}
+
+// 128-NIA2 by a table that is lent.
+pub fn nia2_with(
     table: &[u64; 256],
     key: Key,
     count: u32,
@@ -43,17 +60,14 @@ fn nia2_with(
     let k1 = key.subkey1;
     let k2 = key.subkey2;
     let h = head(count, bearer, direction);
-    let t = cmac_with(table, &w, k1, k2, &h, message);
-    [t[0], t[1], t[2], t[3]]
+    code_of(cmac_with(table, &w, k1, k2, &h, message))
 }
 
-// By a key's schedule alone: the rest of a key is not copied for it.
-fn nea2_with(table: &[u64; 256], w: &[u8; 176], count: u32, bearer: u8, direction: u8, m: &mut [u8])
-    requires { ⌜ now table ≡ mixTable ⌝ }
-    ensures { λ r. ⌜ now (m .exit) ≡ ctrOf (cipher (now (w .entry))) (headOf count bearer direction ++ replicate 8 0) (now (m .entry)) ⌝ }
+fn first_counter(count: u32, bearer: u8, direction: u8) -> [u8; 16]
+    ensures { λ r. ⌜ r ≡ headOf count bearer direction ++ replicate 8 0 ⌝ }
 {
     let h = head(count, bearer, direction);
-    let t = [
+    [
         h[0],
         h[1],
         h[2],
@@ -70,8 +84,31 @@ fn nea2_with(table: &[u64; 256], w: &[u8; 176], count: u32, bearer: u8, directio
         0,
         0,
         0,
-    ];
-    ctr_with(table, w, t, m);
+    ]
+}
+
+// By a key's schedule alone: the rest of a key is not copied for it.
+fn nea2_under(
+    table: &[u64; 256],
+    w: &[u8; 176],
+    count: u32,
+    bearer: u8,
+    direction: u8,
+    m: &mut [u8],
+)
+    requires { ⌜ now table ≡ mixTable ⌝ }
+    ensures { λ r. ⌜ now (m .exit) ≡ ctrOf (cipher (now (w .entry))) (headOf count bearer direction ++ replicate 8 0) (now (m .entry)) ⌝ }
+{
+    ctr_with(table, w, first_counter(count, bearer, direction), m);
+}
+
+// 128-NEA2, in place, by a table that is lent.
+pub fn nea2_with(table: &[u64; 256], key: Key, count: u32, bearer: u8, direction: u8, m: &mut [u8])
+    requires { ⌜ now table ≡ mixTable ⌝ }
+    ensures { λ r. ⌜ now (m .exit) ≡ nea2By key count bearer direction (now (m .entry)) ⌝ }
+{
+    let w = key.schedule;
+    nea2_under(table, &w, count, bearer, direction, m);
 }
 
 // 128-NIA2.
@@ -87,8 +124,32 @@ pub fn nea2(key: Key, count: u32, bearer: u8, direction: u8, m: &mut [u8])
     ensures { λ r. ⌜ now (m .exit) ≡ nea2By key count bearer direction (now (m .entry)) ⌝ }
 {
     let table = mix_table();
-    let w = key.schedule;
-    nea2_with(&table, &w, count, bearer, direction, m);
+    nea2_with(&table, key, count, bearer, direction, m);
+}
+
+// The same as `nea2_under` behind the first octet and `nia2_with` then, side by side.
+fn protect_long(
+    table: &[u64; 256],
+    integrity_key: Key,
+    w: &[u8; 176],
+    count: u32,
+    bearer: u8,
+    direction: u8,
+    m: &mut [u8],
+) -> [u8; 4]
+    requires { ⌜ (now table ≡ mixTable) × (49 ≤ length (now m)) ⌝ }
+    ensures ciphered { λ r. ⌜ now (m .exit) ≡ take 1 (now (m .entry)) ++ ctrOf (cipher (now (w .entry))) (headOf count bearer direction ++ replicate 8 0) (drop 1 (now (m .entry))) ⌝ }
+    ensures code { λ r. ⌜ r ≡ nia2By «integrity_key» count bearer direction (now (m .exit)) ⌝ }
+{
+    let v = integrity_key.schedule;
+    let k1 = integrity_key.subkey1;
+    let k2 = integrity_key.subkey2;
+    let h = head(count, bearer, direction);
+    let t = first_counter(count, bearer, direction);
+    let f = m[0];
+    let n = (m.len() - 1) / 16 - 2;
+    let x = cipher_and_chain(table, w, &v, t, f, &mut m[1..]);
+    code_of(cmac_from(table, &v, k1, k2, &h, m, x, n))
 }
 
 // 128-NEA2 of what is behind the first octet, in place, and 128-NIA2 of the whole then: the table is written to the stack once.
@@ -100,12 +161,16 @@ pub fn protect2(
     direction: u8,
     m: &mut [u8],
 ) -> [u8; 4]
-    requires { ⌜ 1 ≤ length (now m) ⌝ }
     ensures ciphered { λ r. ⌜ now (m .exit) ≡ take 1 (now (m .entry)) ++ nea2By «ciphering_key» count bearer direction (drop 1 (now (m .entry))) ⌝ }
     ensures code { λ r. ⌜ r ≡ nia2By «integrity_key» count bearer direction (now (m .exit)) ⌝ }
 {
     let table = mix_table();
     let w = ciphering_key.schedule;
-    nea2_with(&table, &w, count, bearer, direction, &mut m[1..]);
+    if 128 <= m.len() {
+        return protect_long(&table, integrity_key, &w, count, bearer, direction, m);
+    }
+    if 1 < m.len() {
+        nea2_under(&table, &w, count, bearer, direction, &mut m[1..]);
+    }
     nia2_with(&table, integrity_key, count, bearer, direction, m)
 }

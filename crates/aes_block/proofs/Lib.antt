@@ -4,6 +4,7 @@ pub mod Field
 pub mod Xor
 pub mod Keys
 pub mod Lengths
+pub mod Rows
 pub mod Rounds
 pub mod Mix
 pub mod Sharing

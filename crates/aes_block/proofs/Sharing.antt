@@ -3,10 +3,8 @@
 use mathlib.Core.Path.{_≡_, refl, ap, ap₂, sym, _∙_}
 use mathlib.Core.List.{List, [], _∷_, _++_, zipWith}
 use Prim.Native.Nat.{ℕ, _+_, _-_, _*_, _%_}
-use native.Mathlib.Omega.{arith}
 use lib.Bits.{bitXor}
 use lib.ListN.{length, take, getD}
-use lib.Seq.{take-suc, take-all}
 use Rattle.aes_block.specs.Octets.{four, sixteen, xor}
 use Rattle.aes_block.specs.Field.{sbox}
 use Rattle.aes_block.specs.Cipher.{cell, toState, word, addRoundKey, mixColumns, shiftRows, subBytes, rounds}
@@ -86,6 +84,3 @@ module _ (w : List ℕ) where
       ap₂ (λ (x y : List (List ℕ)). twoRounds (taken-out s x y) (bitXor o (getD w 15 0))) a′ c′ ∙
       of-sixteen (λ j. getD b j 0) s (e ∙ ap (λ (z : List ℕ). addRoundKey w 0 (toState z)) (sym i)) o ∙
       ap (λ (z : List ℕ). rounds w 2 (addRoundKey w 0 (toState (take 15 z ++ (o ∷ []))))) i
-
-pub last-octet : (b : List ℕ) → length b ≡ 16 → take 15 b ++ (getD b 15 0 ∷ []) ≡ b
-last-octet b h = sym (take-suc b 15 0 (omega arith)) ∙ take-all 16 b (omega arith)

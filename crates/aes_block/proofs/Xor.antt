@@ -27,7 +27,7 @@ bit-assoc zero (suc zero) (suc (suc z)) p q r = absurd (omega arith)
 bit-assoc (suc zero) zero (suc (suc z)) p q r = absurd (omega arith)
 bit-assoc (suc zero) (suc zero) (suc (suc z)) p q r = absurd (omega arith)
 
-pub xor-assoc : (a b c : ℕ) → bitXor (bitXor a b) c ≡ bitXor a (bitXor b c)
+xor-assoc : (a b c : ℕ) → bitXor (bitXor a b) c ≡ bitXor a (bitXor b c)
 xor-assoc =
     bin-ind (λ (n : ℕ). (b c : ℕ) → bitXor (bitXor n b) c ≡ bitXor n (bitXor b c)) (λ b c. refl)
     (λ n ih b c.
@@ -42,7 +42,7 @@ xor-assoc =
 pub other-way : (x y z : ℕ) → bitXor (bitXor x y) z ≡ bitXor (bitXor x z) y
 other-way x y z = xor-assoc x y z ∙ ap (bitXor x) (xor-comm y z) ∙ sym (xor-assoc x z y)
 
-pub xors-assoc : (a b c : List ℕ) → xor (xor a b) c ≡ xor a (xor b c)
+xors-assoc : (a b c : List ℕ) → xor (xor a b) c ≡ xor a (xor b c)
 unfolding zipWith
 xors-assoc [] b c = refl
 xors-assoc (x ∷ a) [] c = refl

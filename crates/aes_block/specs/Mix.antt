@@ -3,12 +3,12 @@
 -- Assumes nothing.
 use mathlib.Core.Path.{_≡_}
 use mathlib.Core.List.{List, [], _∷_, _++_, map}
-use Prim.Native.Nat.{ℕ, _+_, _-_, _%_}
+use Prim.Native.Nat.{ℕ, zero, suc, _+_, _-_, _%_}
 use lib.Bits.{bitXor}
 use lib.ListN.{take, getD}
 use Rattle.aes_block.specs.Octets.{four, xor, number}
 use Rattle.aes_block.specs.Field.{times, sbox, sboxTable}
-use Rattle.aes_block.specs.Cipher.{toState, addRoundKey, rounds}
+use Rattle.aes_block.specs.Cipher.{toState, subBytes, shiftRows, mixColumns, addRoundKey, rounds}
 
 -- a value s of the S-box with its products, twice: any four octets in a row are what s gives to a mixed column, by its row
 abbrev pub mixEntry : ℕ → ℕ
@@ -31,3 +31,11 @@ twoRounds g v =
 abbrev pub Shared : List ℕ → List ℕ → List (List ℕ) → Type 0
 Shared w b g =
     (o : ℕ) → twoRounds g (bitXor o (getD w 15 0)) ≡ rounds w 2 (addRoundKey w 0 (toState (take 15 b ++ (o ∷ []))))
+
+-- the n rounds after the first two, and the state that a block ends in, of what two rounds have made of it
+unfoldable pub onward : List ℕ → ℕ → List (List ℕ) → List (List ℕ)
+onward w zero s = s
+onward w (suc n) s = addRoundKey w (3 + n) (mixColumns (shiftRows (subBytes (onward w n s))))
+
+unfoldable pub ended : List ℕ → List (List ℕ) → List (List ℕ)
+ended w s = addRoundKey w 10 (shiftRows (subBytes (onward w 7 s)))

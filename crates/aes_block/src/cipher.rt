@@ -44,7 +44,7 @@ pub fn to_state(b: [u8; 16]) -> [[u8; 4]; 4]
     ]
 }
 
-fn from_state(s: [[u8; 4]; 4]) -> [u8; 16]
+pub fn from_state(s: [[u8; 4]; 4]) -> [u8; 16]
     ensures { λ r. ⌜ r ≡ fromState s ⌝ }
 {
     [
@@ -64,6 +64,17 @@ fn from_state(s: [[u8; 4]; 4]) -> [u8; 16]
         s[3][1],
         s[3][2],
         s[3][3],
+    ]
+}
+
+pub fn xor_states(a: [[u8; 4]; 4], b: [[u8; 4]; 4]) -> [[u8; 4]; 4]
+    ensures { λ r. ⌜ r ≡ toState (xor (fromState a) (fromState b)) ⌝ }
+{
+    [
+        xor_word(a[0], b[0]),
+        xor_word(a[1], b[1]),
+        xor_word(a[2], b[2]),
+        xor_word(a[3], b[3]),
     ]
 }
 
@@ -159,12 +170,12 @@ fn rounds_to_9(table: &[u64; 256], w: &[u8; 176], s: [[u8; 4]; 4]) -> [[u8; 4]; 
     middle_round(table, w, 9, b)
 }
 
-pub fn encrypt_with(table: &[u64; 256], w: &[u8; 176], b: [u8; 16]) -> [u8; 16]
+// The state that a block ends in. Called at one place of each loop, so that it is inlined there.
+pub fn encrypt_state(table: &[u64; 256], w: &[u8; 176], s: [[u8; 4]; 4]) -> [[u8; 4]; 4]
     requires { ⌜ now table ≡ mixTable ⌝ }
-    ensures { λ r. ⌜ r ≡ cipher (now (w .entry)) b ⌝ }
+    ensures { λ r. ⌜ r ≡ toState (cipher (now (w .entry)) (fromState s)) ⌝ }
 {
-    let s = add_round_key(w, 0, to_state(b));
-    from_state(last_round(table, w, rounds_to_9(table, w, s)))
+    last_round(table, w, rounds_to_9(table, w, add_round_key(w, 0, s)))
 }
 
 // One block under an expanded key.
@@ -172,5 +183,5 @@ pub fn encrypt_block(w: &[u8; 176], b: [u8; 16]) -> [u8; 16]
     ensures { λ r. ⌜ r ≡ cipher (now (w .entry)) b ⌝ }
 {
     let table = mix_table();
-    encrypt_with(&table, w, b)
+    from_state(encrypt_state(&table, w, to_state(b)))
 }

@@ -8,12 +8,15 @@ mod shared_rounds;
 mod words;
 
 pub use cipher::encrypt_block;
-pub use cipher::encrypt_with;
+pub use cipher::encrypt_state;
+pub use cipher::from_state;
 pub use cipher::to_state;
+pub use cipher::xor_states;
 pub use columns::mix_table;
 pub use expansion::expand_key;
 pub use pairs::left;
 pub use pairs::right;
-pub use pairs::two_last;
-pub use pairs::two_to_9;
+pub use pairs::two_states;
+pub use shared_rounds::second_state;
 pub use shared_rounds::shared;
+pub use shared_rounds::two_rounds;

@@ -2,9 +2,8 @@
 ghost use mathlib.Core.Path.{_≡_};
 ghost use mathlib.Core.Bool.{_&&_};
 ghost use mathlib.Core.List.{_++_};
-ghost use Prim.Native.Nat.{_≤_};
 ghost use lib.Dec.{eqb};
-ghost use lib.ListN.{length, take, drop};
+ghost use lib.ListN.{take, drop};
 ghost use Rattle.snow3g.specs.Uea2.{nea1Of};
 ghost use Rattle.snow3g.specs.Uia2.{nia1Of};
 ghost use Rattle.zuc.specs.Ciphering.{nea3Of};
@@ -83,7 +82,7 @@ pub fn cipher(algorithm: u8, key: Key, count: u32, bearer: u8, direction: u8, oc
     }
 }
 
-fn are_aes(integrity: u8, ciphering: u8) -> bool
+pub fn are_aes(integrity: u8, ciphering: u8) -> bool
     ensures { λ r. ⌜ r ≡ eqb integrity 2 && eqb ciphering 2 ⌝ }
 {
     if integrity == 2 {
@@ -103,7 +102,6 @@ pub fn protect(
     direction: u8,
     octets: &mut [u8],
 ) -> [u8; 4]
-    requires { ⌜ 1 ≤ length (now octets) ⌝ }
     ensures ciphered { λ r. ⌜ now (octets .exit) ≡ take 1 (now (octets .entry)) ++ cipherOf ciphering «ciphering_key» count bearer direction (drop 1 (now (octets .entry))) ⌝ }
     ensures code { λ r. ⌜ r ≡ codeOf integrity «integrity_key» count bearer direction (now (octets .exit)) ⌝ }
 {
@@ -117,13 +115,15 @@ pub fn protect(
             octets,
         );
     }
-    cipher(
-        ciphering,
-        ciphering_key,
-        count,
-        bearer,
-        direction,
-        &mut octets[1..],
-    );
+    if 1 < octets.len() {
+        cipher(
+            ciphering,
+            ciphering_key,
+            count,
+            bearer,
+            direction,
+            &mut octets[1..],
+        );
+    }
     code(integrity, integrity_key, count, bearer, direction, octets)
 }

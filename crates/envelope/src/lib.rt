@@ -2,16 +2,18 @@
 ghost use mathlib.Core.Path.{_≡_};
 ghost use Prim.Native.Nat.{_+_, _-_, _≤_};
 ghost use lib.ListN.{length, drop};
-ghost use Rattle.look.specs.Look.{lookOf};
 ghost use Rattle.nas_core.specs.Keyed.{payload};
-ghost use Rattle.nas_core.specs.Verify.{fits};
+ghost use Rattle.nas_core.specs.Leaves.{readAs};
+ghost use Rattle.nas_core.specs.Verify.{fits, verifyOf};
 ghost use Rattle.envelope.specs.Envelope.{ciphers, envelope, over};
-ghost use Rattle.envelope.specs.Eps.{notEps, epsMessage};
+ghost use Rattle.envelope.specs.Eps.{epsBearer, epsDirection, notEps, epsMessage};
 ghost use Rattle.envelope.specs.Containers.{s1ToN1, s1Count, containerBearer, containerDirection, otherAlgorithms};
 
 mod hidden;
 mod outgoing;
 
+use count::Opening;
+use count::Record;
 pub use hidden::read_beside;
 use nas_core::Core;
 pub use outgoing::put_initial;
@@ -74,31 +76,31 @@ pub fn put(
     wrap(core, header_type, count, bearer, direction, &mut out[..end]);
 }
 
-// The plaintext of a 5GS message to the front of the output, and what the look says of it.
+// The COUNT that the code of a 5GS message fits; its plaintext goes to the front of the output then.
 pub fn read(
     core: Core,
+    rec: Record,
     header_type: u8,
-    count: u32,
     bearer: u8,
     direction: u8,
     message: &[u8],
     out: &mut [u8],
-) -> u8
+) -> Opening
     requires { ⌜ (7 ≤ length (now message)) × (length (now message) - 7 ≤ length (now out)) ⌝ }
-    ensures plain { λ r. ⌜ now (out .exit) ≡ over (payload core (ciphers «header_type») count bearer direction (drop 7 (now (message .entry)))) (now (out .entry)) ⌝ }
-    ensures looked { λ r. ⌜ r ≡ lookOf «header_type» direction (payload core (ciphers «header_type») count bearer direction (drop 7 (now (message .entry)))) ⌝ }
+    ensures opening { λ r. ⌜ r ≡ verifyOf core rec bearer direction 2 (now (message .entry)) ⌝ }
+    ensures plain { λ r. ⌜ now (out .exit) ≡ readAs (λ c. over (payload core (ciphers «header_type») c bearer direction (drop 7 (now (message .entry)))) (now (out .entry))) (now (out .entry)) r ⌝ }
 {
     let wrote = message.len() - HEADER;
     let ciphered = nas_core::is_ciphering(header_type);
-    core.fill(
+    core.verify(
+        rec,
         ciphered,
-        count,
         bearer,
         direction,
-        &message[HEADER..],
+        CODE,
+        message,
         &mut out[..wrote],
-    );
-    look::look(header_type, direction, &out[..wrote])
+    )
 }
 
 // Refusal 12: neither ATTACH REQUEST nor TRACKING AREA UPDATE REQUEST.
@@ -128,15 +130,22 @@ pub fn put_eps(core: Core, count: u32, inner: &[u8], out: &mut [u8])
     out[0] = 0x17;
 }
 
-// What follows the header of an EPS message to the front of the output, and whether it is refused.
-pub fn read_eps(message: &[u8], out: &mut [u8]) -> bool
+// The COUNT that the code of an EPS message fits; what follows the header goes to the front of the output then.
+pub fn read_eps(core: Core, rec: Record, message: &[u8], out: &mut [u8]) -> Opening
     requires { ⌜ (6 ≤ length (now message)) × (length (now message) - 6 ≤ length (now out)) ⌝ }
-    ensures plain { λ r. ⌜ now (out .exit) ≡ over (drop 6 (now (message .entry))) (now (out .entry)) ⌝ }
-    ensures looked { λ r. ⌜ r ≡ notEps (drop 6 (now (message .entry))) ⌝ }
+    ensures opening { λ r. ⌜ r ≡ verifyOf core rec epsBearer epsDirection 1 (now (message .entry)) ⌝ }
+    ensures plain { λ r. ⌜ now (out .exit) ≡ readAs (λ c. over (drop 6 (now (message .entry))) (now (out .entry))) (now (out .entry)) r ⌝ }
 {
     let wrote = message.len() - EPS_HEADER;
-    nas_core::copy(&message[EPS_HEADER..], &mut out[..wrote]);
-    not_eps(&message[EPS_HEADER..])
+    core.verify(
+        rec,
+        false,
+        EPS_BEARER,
+        EPS_DIRECTION,
+        EPS_CODE,
+        message,
+        &mut out[..wrote],
+    )
 }
 
 // Refusal 15.

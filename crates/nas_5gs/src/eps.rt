@@ -1,15 +1,36 @@
 // The EPS message of a UE that goes from 5GS to EPS: uplink 3GPP record, bearer 1, direction 0.
 ghost use mathlib.Core.Path.{_≡_};
 ghost use Prim.Native.Nat.{_+_, _-_, _≤_, _<_};
-ghost use lib.ListN.{length, drop};
+ghost use lib.ListN.{length};
+ghost use Rattle.envelope.specs.Eps.{notEps};
 ghost use Rattle.nas_5gs.specs.Leaves.{leaves};
-ghost use Rattle.nas_5gs.specs.Eps.{sealEpsRefusal, sealEpsOf, openEpsRefusal, epsHanded, epsOpened, openEpsOf};
+ghost use Rattle.nas_5gs.specs.Eps.{sealEpsRefusal, sealEpsOf, openEpsRefusal, epsAnswer, epsOpened, openEpsOf};
 use crate::Context;
 use crate::EpsOpenAnswer;
 use crate::EpsOpenDone;
 use crate::UseAnswer;
 use crate::UseDone;
 use count::Opening;
+
+// What follows the header is looked at.
+fn hand_eps(count: u32, distance: u32, plain: &[u8]) -> EpsOpenAnswer
+    ensures { λ r. ⌜ r ≡ epsAnswer count distance (length (now (plain .entry))) (notEps (now (plain .entry))) ⌝ }
+{
+    let wrote = plain.len();
+    if envelope::not_eps(plain) {
+        return EpsOpenAnswer::Content {
+            count,
+            distance,
+            wrote,
+            number: 12,
+        };
+    }
+    EpsOpenAnswer::Accepted {
+        count,
+        distance,
+        wrote,
+    }
+}
 
 impl Context {
     fn seal_eps_refusal(self, inner: &[u8], room: usize) -> u8
@@ -61,47 +82,13 @@ impl Context {
         nas_core::hand_refusal(envelope::EPS_HEADER, message.len(), room)
     }
 
-    // The code is verified and its COUNT used: what follows the header goes to the front of the output, and is looked at.
-    fn hand_eps(self, count: u32, distance: u32, message: &[u8], out: &mut [u8]) -> EpsOpenDone
-        requires { ⌜ (6 ≤ length (now message)) × (length (now message) - 6 ≤ length (now out)) ⌝ }
-        ensures { λ r. ⌜ leaves (r .answer) (r .context) (now (out .exit)) ≡ epsHanded (drop 6 (now (message .entry))) (now (out .entry)) count distance self ⌝ }
-    {
-        let wrote = message.len() - envelope::EPS_HEADER;
-        if envelope::read_eps(message, out) {
-            let answer = EpsOpenAnswer::Content {
-                count,
-                distance,
-                wrote,
-                number: 12,
-            };
-            return EpsOpenDone {
-                answer,
-                context: self,
-            };
-        }
-        EpsOpenDone {
-            answer: EpsOpenAnswer::Accepted {
-                count,
-                distance,
-                wrote,
-            },
-            context: self,
-        }
-    }
-
     fn receive_eps(self, message: &[u8], out: &mut [u8]) -> EpsOpenDone
         requires { ⌜ (self .core .size ≤ 64) × (6 ≤ length (now message)) × (length (now message) - 6 ≤ length (now out)) ⌝ }
         ensures { λ r. ⌜ leaves (r .answer) (r .context) (now (out .exit)) ≡ epsOpened self (now (message .entry)) (now (out .entry)) ⌝ }
     {
         let core = self.core;
         let rec = self.records[crate::EPS_PLACE];
-        let choice = core.verify(
-            rec,
-            envelope::EPS_BEARER,
-            envelope::EPS_DIRECTION,
-            envelope::EPS_CODE,
-            message,
-        );
+        let choice = envelope::read_eps(core, rec, message, out);
         match choice {
             Opening::None => EpsOpenDone {
                 answer: EpsOpenAnswer::Refused(6),
@@ -111,10 +98,14 @@ impl Context {
                 answer: EpsOpenAnswer::Refused(7),
                 context: self,
             },
-            Opening::Late(c) => self.used_late(crate::EPS_PLACE, c)
-                .hand_eps(c, rec.distance_to(c), message, out),
-            Opening::Forward(c) => self.used(crate::EPS_PLACE, c)
-                .hand_eps(c, rec.distance_to(c), message, out),
+            Opening::Late(c) => EpsOpenDone {
+                answer: hand_eps(c, rec.distance_to(c), &message[envelope::EPS_HEADER..]),
+                context: self.used_late(crate::EPS_PLACE, c),
+            },
+            Opening::Forward(c) => EpsOpenDone {
+                answer: hand_eps(c, rec.distance_to(c), &message[envelope::EPS_HEADER..]),
+                context: self.used(crate::EPS_PLACE, c),
+            },
         }
     }
 

@@ -1,13 +1,12 @@
 // Opening 5GS messages.
 ghost use mathlib.Core.Path.{_≡_};
 ghost use Prim.Native.Nat.{_-_, _≤_, _<_};
-ghost use lib.ListN.{length, drop};
-ghost use Rattle.nas_core.specs.Keyed.{payload};
+ghost use lib.ListN.{length};
+ghost use Rattle.look.specs.Look.{lookOf};
 ghost use Rattle.initial.specs.Inside.{Hidden};
 ghost use Rattle.envelope.specs.Initial.{besideOf, beside, told};
-ghost use Rattle.nas_5gs.specs.Leaves.{leavesTwo};
-ghost use Rattle.nas_5gs.specs.Envelope.{ciphers};
-ghost use Rattle.nas_5gs.specs.Open.{typeOf, openRefusal, roomFor, insideNumber, openAnswer, handed, opened, openOf};
+ghost use Rattle.nas_5gs.specs.Leaves.{leavesTwo, over};
+ghost use Rattle.nas_5gs.specs.Open.{typeOf, openRefusal, roomFor, insideNumber, openAnswer, opened, openOf};
 use crate::Connection;
 use crate::Context;
 use crate::Direction;
@@ -15,6 +14,7 @@ use crate::OpenAnswer;
 use crate::OpenDone;
 use count::Opening;
 use envelope::Inside;
+use nas_core::Core;
 
 // The room that a message may take: that of the shorter output where a second one is needed.
 fn room_for(direction: u8, message: &[u8], room: usize, second: usize) -> usize
@@ -57,6 +57,36 @@ fn answered(count: u32, distance: u32, wrote: usize, header_type: u8, inside: In
     }
 }
 
+// The plaintext is looked at, and the message of its container goes to the second output.
+fn hand(
+    core: Core,
+    header_type: u8,
+    count: u32,
+    distance: u32,
+    bearer: u8,
+    direction: u8,
+    plain: &[u8],
+    second: &mut [u8],
+) -> OpenAnswer
+    requires { ⌜ («header_type» ≡ 1 → direction ≡ 0 → length (now plain) ≤ length (now second)) ⌝ }
+    ensures answer { λ r. ⌜ r ≡ openAnswer count distance (length (now (plain .entry))) «header_type» (insideNumber (lookOf «header_type» direction (now (plain .entry))) (besideOf core «header_type» count bearer direction (now (plain .entry)))) (length (beside (besideOf core «header_type» count bearer direction (now (plain .entry))))) ⌝ }
+    ensures wrote { λ r. ⌜ now (second .exit) ≡ over (beside (besideOf core «header_type» count bearer direction (now (plain .entry)))) (now (second .entry)) ⌝ }
+{
+    let wrote = plain.len();
+    let number = look::look(header_type, direction, plain);
+    if number != 0 {
+        return OpenAnswer::Content {
+            count,
+            distance,
+            wrote,
+            header_type,
+            number,
+        };
+    }
+    let inside = envelope::read_beside(core, header_type, count, bearer, direction, plain, second);
+    answered(count, distance, wrote, header_type, inside)
+}
+
 impl Context {
     fn open_refusal(self, message: &[u8], room: usize) -> u8
         ensures { λ r. ⌜ r ≡ openRefusal self (now (message .entry)) room ⌝ }
@@ -80,59 +110,6 @@ impl Context {
         nas_core::hand_refusal(envelope::HEADER, message.len(), room)
     }
 
-    // The code is verified and its COUNT used: the plaintext goes to the front of the output and is looked at, and what is inside it to the second.
-    fn hand(
-        self,
-        header_type: u8,
-        count: u32,
-        distance: u32,
-        bearer: u8,
-        direction: u8,
-        message: &[u8],
-        out: &mut [u8],
-        second: &mut [u8],
-    ) -> OpenDone
-        requires { ⌜ (7 ≤ length (now message)) × (length (now message) - 7 ≤ length (now out)) × («header_type» ≡ 1 → direction ≡ 0 → length (now message) - 7 ≤ length (now second)) ⌝ }
-        ensures { λ r. ⌜ leavesTwo (r .answer) (r .context) (now (out .exit)) (now (second .exit)) ≡ handed «header_type» direction (payload (self .core) (ciphers «header_type») count bearer direction (drop 7 (now (message .entry)))) (besideOf (self .core) «header_type» count bearer direction (payload (self .core) (ciphers «header_type») count bearer direction (drop 7 (now (message .entry))))) (now (out .entry)) (now (second .entry)) count distance self ⌝ }
-    {
-        let wrote = message.len() - envelope::HEADER;
-        let number = envelope::read(
-            self.core,
-            header_type,
-            count,
-            bearer,
-            direction,
-            message,
-            out,
-        );
-        if number != 0 {
-            let answer = OpenAnswer::Content {
-                count,
-                distance,
-                wrote,
-                header_type,
-                number,
-            };
-            return OpenDone {
-                answer,
-                context: self,
-            };
-        }
-        let inside = envelope::read_beside(
-            self.core,
-            header_type,
-            count,
-            bearer,
-            direction,
-            &out[..wrote],
-            second,
-        );
-        OpenDone {
-            answer: answered(count, distance, wrote, header_type, inside),
-            context: self,
-        }
-    }
-
     fn receive(
         self,
         p: usize,
@@ -148,7 +125,8 @@ impl Context {
         let core = self.core;
         let rec = self.records[p];
         let t = message[1] % 16;
-        let choice = core.verify(rec, bearer, direction, envelope::CODE, message);
+        let n = message.len() - envelope::HEADER;
+        let choice = envelope::read(core, rec, t, bearer, direction, message, out);
         match choice {
             Opening::None => OpenDone {
                 answer: OpenAnswer::Refused(6),
@@ -158,26 +136,22 @@ impl Context {
                 answer: OpenAnswer::Refused(7),
                 context: self,
             },
-            Opening::Late(c) => self.used_late(p, c).hand(
-                t,
-                c,
-                rec.distance_to(c),
-                bearer,
-                direction,
-                message,
-                out,
-                second,
-            ),
-            Opening::Forward(c) => self.used(p, c).hand(
-                t,
-                c,
-                rec.distance_to(c),
-                bearer,
-                direction,
-                message,
-                out,
-                second,
-            ),
+            Opening::Late(c) => {
+                let far = rec.distance_to(c);
+                let answer = hand(core, t, c, far, bearer, direction, &out[..n], second);
+                OpenDone {
+                    answer,
+                    context: self.used_late(p, c),
+                }
+            }
+            Opening::Forward(c) => {
+                let far = rec.distance_to(c);
+                let answer = hand(core, t, c, far, bearer, direction, &out[..n], second);
+                OpenDone {
+                    answer,
+                    context: self.used(p, c),
+                }
+            }
         }
     }
 

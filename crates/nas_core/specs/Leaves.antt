@@ -25,6 +25,13 @@ receivedAs used usedLate refused handed Wrong = refused 7
 receivedAs used usedLate refused handed (Late c) = handed c (usedLate c)
 receivedAs used usedLate refused handed (Forward c) = handed c (used c)
 
+-- an output after that: what it carries, read under its COUNT, where one is used
+abbrev pub readAs : (ℕ → List ℕ) → List ℕ → Opening → List ℕ
+readAs carried out None = out
+readAs carried out Wrong = out
+readAs carried out (Late c) = carried c
+readAs carried out (Forward c) = carried c
+
 -- the values: whether it is a refusal, and its number, 0 for a success; the others are 0 where the answer has none
 pub record Values : Type 0 where
   pub refused : Bool

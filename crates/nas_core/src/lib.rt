@@ -1,6 +1,6 @@
 // What a 5GS and an EPS context share: keys, codes and size, the code of octets and their ciphering, and a record's COUNT verified and used.
 ghost use mathlib.Core.Path.{_≡_};
-ghost use mathlib.Core.Bool.{false, cond};
+ghost use mathlib.Core.Bool.{true, false, cond};
 ghost use mathlib.Core.List.{_++_};
 ghost use Prim.Native.Nat.{_+_, _-_, _*_, _≤_, _<_};
 ghost use lib.ListN.{length, take, drop, getD};
@@ -10,6 +10,7 @@ ghost use Rattle.nas_core.specs.Refusals.{coreFault, sendRefusals, handR
 ghost use Rattle.nas_core.specs.Types.{wrongType, ciphers};
 ghost use Rattle.nas_core.specs.Keyed.{wraps, awayFromNull, codeBy, payload, protected};
 ghost use Rattle.nas_core.specs.Verify.{same, fits, verifyOf, advanced};
+ghost use Rattle.nas_core.specs.Leaves.{readAs};
 use aes::Key;
 use count::Candidate;
 use count::Opening;
@@ -263,23 +264,89 @@ impl Core {
         rec.forward(8, self.wraps(), s)
     }
 
-    fn verify_forward(
+    // `take` where both algorithms are AES: one table serves both.
+    fn take_aes(
         self,
-        rec: Record,
+        count: u32,
         bearer: u8,
         direction: u8,
         at: usize,
         message: &[u8],
+        out: &mut [u8],
+    ) -> bool
+        requires { ⌜ (at + 5 + length (now out) ≡ length (now message)) × (self .integrity ≡ 2) × (self .ciphering ≡ 2) ⌝ }
+        ensures fits { λ r. ⌜ r ≡ fits self count bearer direction at (now (message .entry)) ⌝ }
+        ensures read { λ r. ⌜ now (out .exit) ≡ cond r (payload self true count bearer direction (drop (at + 5) (now (message .entry)))) (now (out .entry)) ⌝ }
+    {
+        let end = at + 4;
+        let table = aes::mix_table();
+        let integrity_key = self.integrity_key;
+        let code = aes::nia2_with(
+            &table,
+            integrity_key,
+            count,
+            bearer,
+            direction,
+            &message[end..],
+        );
+        if is_code(code, &message[at..end]) {
+            let body = at + 5;
+            copy(&message[body..], out);
+            let ciphering_key = self.ciphering_key;
+            aes::nea2_with(&table, ciphering_key, count, bearer, direction, out);
+            return true;
+        }
+        false
+    }
+
+    // Whether the code that begins at octet `at` fits the COUNT; what is behind the COUNT's last octet goes to the output then, deciphered if it is to be.
+    fn take(
+        self,
+        ciphered: bool,
+        count: u32,
+        bearer: u8,
+        direction: u8,
+        at: usize,
+        message: &[u8],
+        out: &mut [u8],
+    ) -> bool
+        requires { ⌜ at + 5 + length (now out) ≡ length (now message) ⌝ }
+        ensures fits { λ r. ⌜ r ≡ fits self count bearer direction at (now (message .entry)) ⌝ }
+        ensures read { λ r. ⌜ now (out .exit) ≡ cond r (payload self ciphered count bearer direction (drop (at + 5) (now (message .entry)))) (now (out .entry)) ⌝ }
+    {
+        if ciphered {
+            if algorithms::are_aes(self.integrity, self.ciphering) {
+                return self.take_aes(count, bearer, direction, at, message, out);
+            }
+        }
+        if self.fits(count, bearer, direction, at, message) {
+            let body = at + 5;
+            self.fill(ciphered, count, bearer, direction, &message[body..], out);
+            return true;
+        }
+        false
+    }
+
+    fn verify_forward(
+        self,
+        rec: Record,
+        ciphered: bool,
+        bearer: u8,
+        direction: u8,
+        at: usize,
+        message: &[u8],
+        out: &mut [u8],
     ) -> Opening
-        requires { ⌜ at + 5 ≤ length (now message) ⌝ }
-        ensures { λ r. ⌜ r ≡ tryForward (λ n. fits self n bearer direction at (now (message .entry))) (forwardOf 8 (wraps self) rec (getD (now (message .entry)) (at + 4) 0)) ⌝ }
+        requires { ⌜ at + 5 + length (now out) ≡ length (now message) ⌝ }
+        ensures opening { λ r. ⌜ r ≡ tryForward (λ n. fits self n bearer direction at (now (message .entry))) (forwardOf 8 (wraps self) rec (getD (now (message .entry)) (at + 4) 0)) ⌝ }
+        ensures read { λ r. ⌜ now (out .exit) ≡ readAs (λ n. payload self ciphered n bearer direction (drop (at + 5) (now (message .entry)))) (now (out .entry)) r ⌝ }
     {
         let last = at + 4;
         let candidate = self.forward(rec, message[last]);
         match candidate {
             Candidate::Nothing => Opening::None,
             Candidate::At(c) => {
-                if self.fits(c, bearer, direction, at, message) {
+                if self.take(ciphered, c, bearer, direction, at, message, out) {
                     Opening::Forward(c)
                 } else {
                     Opening::Wrong
@@ -288,27 +355,38 @@ impl Core {
         }
     }
 
-    // The COUNT that the code at octet `at` fits: the late candidate's is tried first.
+    // The COUNT that the code at octet `at` fits, the late candidate's tried first; what is behind its last octet goes to the output then, deciphered if it is to be.
     pub fn verify(
         self,
         rec: Record,
+        ciphered: bool,
         bearer: u8,
         direction: u8,
         at: usize,
         message: &[u8],
+        out: &mut [u8],
     ) -> Opening
-        requires { ⌜ at + 5 ≤ length (now message) ⌝ }
-        ensures { λ r. ⌜ r ≡ verifyOf self rec bearer direction at (now (message .entry)) ⌝ }
+        requires { ⌜ at + 5 + length (now out) ≡ length (now message) ⌝ }
+        ensures opening { λ r. ⌜ r ≡ verifyOf self rec bearer direction at (now (message .entry)) ⌝ }
+        ensures read { λ r. ⌜ now (out .exit) ≡ readAs (λ n. payload self ciphered n bearer direction (drop (at + 5) (now (message .entry)))) (now (out .entry)) r ⌝ }
     {
         let last = at + 4;
         let candidate = self.late(rec, message[last]);
         match candidate {
-            Candidate::Nothing => self.verify_forward(rec, bearer, direction, at, message),
+            Candidate::Nothing => self.verify_forward(
+                rec,
+                ciphered,
+                bearer,
+                direction,
+                at,
+                message,
+                out,
+            ),
             Candidate::At(c) => {
-                if self.fits(c, bearer, direction, at, message) {
+                if self.take(ciphered, c, bearer, direction, at, message, out) {
                     Opening::Late(c)
                 } else {
-                    self.verify_forward(rec, bearer, direction, at, message)
+                    self.verify_forward(rec, ciphered, bearer, direction, at, message, out)
                 }
             }
         }

@@ -6,9 +6,13 @@ ghost use lib.Dec.{eqb, ltb};
 ghost use lib.ListN.{length, drop};
 ghost use Rattle.nas_core.specs.Types.{wrongType, ciphers};
 ghost use Rattle.nas_core.specs.Keyed.{payload};
+ghost use Rattle.nas_core.specs.Leaves.{readAs};
+ghost use Rattle.nas_core.specs.Verify.{verifyOf};
 ghost use Rattle.nas_eps.specs.Leaves.{over};
-ghost use Rattle.nas_eps.specs.Octets.{bearer, message};
+ghost use Rattle.nas_eps.specs.Octets.{bearer, typeOf, message};
 ghost use Rattle.nas_eps.specs.Open.{formRefusal};
+use count::Opening;
+use count::Record;
 use nas_core::Core;
 
 // In front of the payload: header type, code and last octet of COUNT.
@@ -76,19 +80,21 @@ pub fn put(core: Core, header_type: u8, count: u32, direction: u8, inner: &[u8],
     out[0] = header_type * 16 + 7;
 }
 
-// The plaintext of a message to the front of the output.
-pub fn read(core: Core, header_type: u8, count: u32, direction: u8, message: &[u8], out: &mut [u8])
+// The COUNT that a message's code fits; its plaintext goes to the front of the output then.
+pub fn verify(core: Core, rec: Record, direction: u8, message: &[u8], out: &mut [u8]) -> Opening
     requires { ⌜ (6 ≤ length (now message)) × (length (now message) - 6 ≤ length (now out)) ⌝ }
-    ensures { λ r. ⌜ now (out .exit) ≡ over (payload core (ciphers «header_type») count bearer direction (drop 6 (now (message .entry)))) (now (out .entry)) ⌝ }
+    ensures opening { λ r. ⌜ r ≡ verifyOf core rec bearer direction 1 (now (message .entry)) ⌝ }
+    ensures read { λ r. ⌜ now (out .exit) ≡ readAs (λ n. over (payload core (ciphers (typeOf (now (message .entry)))) n bearer direction (drop 6 (now (message .entry)))) (now (out .entry))) (now (out .entry)) r ⌝ }
 {
     let wrote = message.len() - HEADER;
-    let ciphered = nas_core::is_ciphering(header_type);
-    core.fill(
+    let ciphered = nas_core::is_ciphering(message[0] / 16);
+    core.verify(
+        rec,
         ciphered,
-        count,
         BEARER,
         direction,
-        &message[HEADER..],
+        CODE,
+        message,
         &mut out[..wrote],
-    );
+    )
 }

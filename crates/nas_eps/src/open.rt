@@ -2,14 +2,11 @@
 ghost use mathlib.Core.Path.{_≡_};
 ghost use Prim.Native.Nat.{_-_, _≤_, _<_};
 ghost use lib.Dec.{eqb};
-ghost use lib.ListN.{length, drop};
+ghost use lib.ListN.{length};
 ghost use Rattle.refusals.specs.Order.{_when_};
-ghost use Rattle.nas_core.specs.Types.{ciphers};
-ghost use Rattle.nas_core.specs.Keyed.{payload};
 ghost use Rattle.nas_eps.specs.Places.{downlink};
 ghost use Rattle.nas_eps.specs.Leaves.{leaves};
-ghost use Rattle.nas_eps.specs.Octets.{bearer};
-ghost use Rattle.nas_eps.specs.Open.{openRefusal, handed, opened, Requested, openOf};
+ghost use Rattle.nas_eps.specs.Open.{openRefusal, opened, Requested, openOf};
 use crate::Context;
 use crate::Direction;
 use crate::OpenAnswer;
@@ -44,32 +41,6 @@ impl Context {
         nas_core::hand_refusal(octets::HEADER, message.len(), room)
     }
 
-    // The code is verified and its COUNT used: the plaintext goes to the front of the output.
-    fn hand(
-        self,
-        header_type: u8,
-        count: u32,
-        distance: u32,
-        direction: u8,
-        message: &[u8],
-        out: &mut [u8],
-    ) -> OpenDone
-        requires { ⌜ (6 ≤ length (now message)) × (length (now message) - 6 ≤ length (now out)) ⌝ }
-        ensures { λ r. ⌜ leaves (r .answer) (r .context) (now (out .exit)) ≡ handed «header_type» (payload (self .core) (ciphers «header_type») count bearer direction (drop 6 (now (message .entry)))) (now (out .entry)) count distance self ⌝ }
-    {
-        let wrote = message.len() - octets::HEADER;
-        octets::read(self.core, header_type, count, direction, message, out);
-        OpenDone {
-            answer: OpenAnswer::Accepted {
-                count,
-                distance,
-                wrote,
-                header_type,
-            },
-            context: self,
-        }
-    }
-
     fn receive(self, direction: u8, message: &[u8], out: &mut [u8]) -> OpenDone
         requires { ⌜ (direction < 2) × (self .core .size ≤ 64) × (6 ≤ length (now message)) × (length (now message) - 6 ≤ length (now out)) ⌝ }
         ensures { λ r. ⌜ leaves (r .answer) (r .context) (now (out .exit)) ≡ opened self direction (now (message .entry)) (now (out .entry)) ⌝ }
@@ -78,7 +49,8 @@ impl Context {
         let core = self.core;
         let rec = self.records[p];
         let t = message[0] / 16;
-        let choice = core.verify(rec, octets::BEARER, direction, octets::CODE, message);
+        let wrote = message.len() - octets::HEADER;
+        let choice = octets::verify(core, rec, direction, message, out);
         match choice {
             Opening::None => OpenDone {
                 answer: OpenAnswer::Refused(6),
@@ -88,10 +60,24 @@ impl Context {
                 answer: OpenAnswer::Refused(7),
                 context: self,
             },
-            Opening::Late(c) => self.used_late(p, c)
-                .hand(t, c, rec.distance_to(c), direction, message, out),
-            Opening::Forward(c) => self.used(p, c)
-                .hand(t, c, rec.distance_to(c), direction, message, out),
+            Opening::Late(c) => OpenDone {
+                answer: OpenAnswer::Accepted {
+                    count: c,
+                    distance: rec.distance_to(c),
+                    wrote,
+                    header_type: t,
+                },
+                context: self.used_late(p, c),
+            },
+            Opening::Forward(c) => OpenDone {
+                answer: OpenAnswer::Accepted {
+                    count: c,
+                    distance: rec.distance_to(c),
+                    wrote,
+                    header_type: t,
+                },
+                context: self.used(p, c),
+            },
         }
     }
 

@@ -1,24 +1,15 @@
-use mathlib.Core.Path.{_≡_, refl, ap, sym, _∙_}
-use mathlib.Core.Bool.{Bool, true, false, _&&_}
+use mathlib.Core.Path.{ap, sym, _∙_}
+use mathlib.Core.Logic.{⊎-elim}
 use mathlib.Core.List.{List, _++_}
 use Prim.Native.Nat.{ℕ}
-use native.Mathlib.Omega.{arith}
-use lib.Dec.{eqb}
-use lib.ListN.{take, drop}
-use borrow.Author.Tests.{eqb-true}
-use Rattle.aes.proofs.Parts.{behind}
+use lib.ListN.{length, take, drop}
+use Rattle.aes.proofs.Parts.{behind, same-length, short}
 use Rattle.algorithms.specs.Codes.{codeOf, cipherOf}
+use Rattle.algorithms.proofs.Laws.{cipher-length}
+use Rattle.algorithms.proofs.Tests.{twos}
 use borrow.Author.Needs.{needs}
 use Rattle.algorithms.proofs.protect.Statement.{statement}
 use Rattle.algorithms.proofs.protect.Tie as tie
-
-both : (s t : Bool) → s && t ≡ true → (s ≡ true) × (t ≡ true)
-both true true e = (refl, refl)
-both true false e = absurd (let z : _≡_ {A = ℕ} 0 1 = cc in omega arith)
-both false t e = absurd (let z : _≡_ {A = ℕ} 0 1 = cc in omega arith)
-
-twos : (i c : ℕ) → eqb i 2 && eqb c 2 ≡ true → (i ≡ 2) × (c ≡ 2)
-twos i c e = let t = both (eqb i 2) (eqb c 2) e in (eqb-true i 2 (t .0), eqb-true c 2 (t .1))
 
 returns : tie.Need-returns
 unfolding codeOf cipherOf
@@ -33,13 +24,26 @@ returns c =
 
 returns-2 : tie.Need-returns-2
 returns-2 c =
-    let f = c .before .before .before .before in
-    let a = f .before .before .before .before .before .args in
-    (behind 1 (a .octets .now) (f .cipher .last .1 .1 .1 .1 .1 .0) (λ (l : List ℕ). cipherOf (a .ciphering) (a .ciphering-key) (a .count) (a .bearer) (a .direction) l) (f .cipher .ensures), c .code .ensures)
+    let j = c .before .before in
+    let a = j .before .before .before .before .args in
+    let m = a .octets .now in
+    let f : (List ℕ → List ℕ) = λ l. cipherOf (a .ciphering) (a .ciphering-key) (a .count) (a .bearer) (a .direction) l in (
+      ⊎-elim
+          (λ w. w .5 ∙ behind 1 m _ f (w .2 .ensures))
+          (λ w. w .1 ∙ short f (λ l. cipher-length (a .ciphering) (a .ciphering-key) (a .count) (a .bearer) (a .direction) l) m (w .0 .left)) (j .if2 .came),
+      c .code .ensures,
+    )
+
+same-length-2 : tie.Need-same-length-2
+same-length-2 c =
+    let a = c .before .before .before .before .before .before .args in
+    ap length (returns-2 c .0) ∙
+    same-length (λ (l : List ℕ). cipherOf (a .ciphering) (a .ciphering-key) (a .count) (a .bearer) (a .direction) l)
+    (λ l. cipher-length (a .ciphering) (a .ciphering-key) (a .count) (a .bearer) (a .direction) l) (a .octets .now)
 
 pub protect-spec : {M : Type 1} → statement M
 protect-spec =
     tie.close
     (tie.spec
     (λ c κs. search needs) (λ c κs. search needs) (λ c. search needs) returns (λ c. search needs) (λ c. search needs) (λ c. search needs) (λ c κs. search needs)
-    (λ c κs. search needs) (λ c. search needs) returns-2)
+    (λ c κs. search needs) same-length-2 returns-2)

@@ -5,10 +5,13 @@ use Rattle.aes.proofs.cmac_mode.cmac.Tie as tie
 
 returns : tie.Need-returns
 unfolding cmacOf subkey2
-returns c = rw (c .cmac-with .ensures, c .before .before .double .ensures, c .before .before .before .subkey .ensures)
+returns c =
+    let s = c .before .before .before in
+    rw (c .block-of .ensures, c .before .cmac-with .ensures, s .double .ensures, s .before .subkey .ensures)
 
 pub cmac-spec : {M : Type 1} → statement M
 cmac-spec =
     tie.close
     (tie.spec
-    (λ c κs. search needs) (λ c κs. search needs) (λ c κs. search needs) (λ c κs. search needs) returns)
+    (λ c κs. search needs) (λ c κs. search needs) (λ c κs. search needs) (λ c κs. search needs) (λ c κs. search needs)
+    returns)

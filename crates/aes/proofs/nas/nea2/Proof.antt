@@ -1,10 +1,8 @@
-use Rattle.aes.specs.Keys.{nea2By}
 use borrow.Author.Needs.{needs}
 use Rattle.aes.proofs.nas.nea2.Statement.{statement}
 use Rattle.aes.proofs.nas.nea2.Tie as tie
 
 returns : tie.Need-returns
-unfolding nea2By
 returns c = c .before .before .nea2-with .ensures
 
 pub nea2-spec : {M : Type 1} → statement M

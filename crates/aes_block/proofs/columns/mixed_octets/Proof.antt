@@ -13,11 +13,11 @@ returns c =
     let s = c6 .before .before in
     rw (
       c .xor-word4 .ensures,
-      c .before .xor-word3 .ensures,
-      c2 .from-row-3 .ensures,
-      c2 .before .from-row-2 .ensures,
+      c .before .from-row-2 .ensures,
+      c2 .xor-word3 .ensures,
+      c2 .before .from-row-1 .ensures,
       c4 .xor-word2 .ensures,
-      c4 .before .from-row-1 .ensures,
+      c4 .before .from-row-3 .ensures,
       c6 .xor-word .ensures,
       c6 .before .from-row-0 .ensures,
     )

@@ -7,19 +7,35 @@ use Rattle.nas_core.proofs.Core.verify.Tie as tie
 
 returns : tie.Need-returns
 unfolding verifyOf opening
-returns c = simp (c .verify-forward .ensures, sym (c .before .before .before .late .ensures) ∙ c .before .enum-told .given .1)
+returns c =
+    let f = c .before .before in
+    let e = f .before .before in
+    (simp (f .verify-forward .ensures .0, sym (e .before .before .late .ensures) ∙ e .enum-told .given .1), f .verify-forward .ensures .1)
 
 returns-2 : tie.Need-returns-2
 unfolding verifyOf opening
-returns-2 c = simp (sym (c .before .before .before .before .before .late .ensures) ∙ c .before .before .before .candidate .given .1, sym (c .before .fits2 .ensures) ∙ c .if1 .taken)
+returns-2 c =
+    let t = c .before .before .before in
+    let d = t .before .before .before in (
+      simp (sym (d .before .before .late .ensures) ∙ d .candidate .given .1, sym (t .take .ensures .0) ∙ c .if1 .taken),
+      rw (c .if1 .taken) at (t .take .ensures .1),
+    )
 
 returns-3 : tie.Need-returns-3
 unfolding verifyOf opening
-returns-3 c = simp (c .verify-forward2 .ensures, sym (c .before .before .before .before .before .before .late .ensures) ∙ c .before .before .before .before .candidate .given .1, sym (c .before .before .fits2 .ensures) ∙ c .before .if1 .left)
+returns-3 c =
+    let f = c .before .before in
+    let i = f .before .before in
+    let t = i .before .before .before in
+    let d = t .before .before .before in (
+      simp (f .verify-forward2 .ensures .0, sym (d .before .before .late .ensures) ∙ d .candidate .given .1, sym (t .take .ensures .0) ∙ i .if1 .left),
+      rw (rw (i .if1 .left) at (t .take .ensures .1)) at (f .verify-forward2 .ensures .1),
+    )
 
 pub verify-spec : {M : Type 1} → statement M
 verify-spec =
     tie.close
     (tie.spec
     (λ c. search needs) (λ c. search needs) (λ c κs. search needs) (λ c. search needs) (λ c κs. search needs)
-    (λ c. search needs) (λ c κs. search needs) (λ c κs. search needs) returns returns-2 returns-3)
+    (λ c. search needs) (λ c κs. search needs) (λ c κs. search needs) (λ c. search needs) returns (λ c. search needs)
+    returns-2 (λ c. search needs) returns-3)

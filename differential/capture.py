@@ -10,6 +10,7 @@ import sys
 from model import DOWNLINK, EITHER, UPLINK
 
 RELAY = range(0x69, 0x6E)
+PAIRED = (0x5D, 0x5E)       # sealed under header types 3 and 4 alone
 IK, CK = bytes(range(16)).hex(), bytes(range(16, 32)).hex()
 
 
@@ -18,7 +19,7 @@ def lines():
         yield f"restore {slot} {codes} {IK} {CK} 000000fa 000001fa 00000005 00ffff00"
         for d, kinds in ((0, UPLINK + EITHER), (1, DOWNLINK + EITHER)):
             for kind in kinds:
-                for header in (1, 2):
+                for header in () if kind in PAIRED else (1, 2):
                     yield f"seal {slot} {header:02x} {d} {1 + kind % 2} 0100 7e00{kind:02x}" + "00" * 12
         yield f"seal {slot} 03 1 1 0100 7e005d020000f070f0"
         yield f"seal {slot} 04 0 1 0100 7e005e"

@@ -1,4 +1,5 @@
 // AES-128 (FIPS 197), counter mode (SP 800-38A), CMAC (SP 800-38B), 128-NEA2 and 128-NIA2 (TS 33.501 Annex D).
+#![tactic(auto)]
 mod cmac_mode;
 mod counter_mode;
 mod kept;
@@ -12,7 +13,7 @@ pub use nas::{nea2, nea2_with, nia2, nia2_with, protect2};
 
 // A key with what it expands to. Only `Key::of` makes one: its fields are this crate's.
 #[repr(C)]
-#[derive(Drop)]
+#[derive(Clone, Copy)]
 pub struct Key {
     octets: [u8; 16],
     schedule: [u8; 176],

@@ -1,4 +1,5 @@
 // Runs document 01's list "Run and compared", the pairing of header types and messages, and messages at the limit, and prints what each call answers: 0 for a success, else the refusal's number.
+#![tactic(auto)]
 use nas_5gs::{
     ChangeAnswer, ChangeDone, Connection, Context, Direction, EpsOpenAnswer, EpsOpenDone,
     OpenAnswer, OpenDone, UseAnswer, UseDone,
@@ -229,7 +230,7 @@ fn restored() -> Context {
     Context::restore(2, 2, KEY, KEY, [16777214, 16777214, 16777214, 16777214]).context
 }
 
-#[derive(Drop)]
+#[derive(Clone, Copy)]
 struct Sent {
     number: u8,
     context: Context,

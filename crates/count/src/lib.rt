@@ -1,4 +1,5 @@
 // A record of COUNTs, as document 01's COUNT rule has it: what may come next, and what a use or a new window size makes of it.
+#![tactic(auto)]
 ghost use Rattle.std.specs.Prelude.{◌≡◌, ◌+◌, ◌-◌, ◌*◌, ◌%◌, ◌^◌, ◌≤◌, ◌<◌, min};
 ghost use Rattle.count.specs.Rule.{exhausted, bit, distance, forward_of, late_of, distance_of, former_highest, use_forward, use_round, use_late, resize_of};
 
@@ -8,14 +9,14 @@ pub const EXHAUSTED: u32 = 16777216;
 // The next COUNT of one direction of one connection (EXHAUSTED: all are used), and the window bits: bit k is set when the COUNT k + 1 below the
 // highest used one, next - 1, is used.
 #[repr(C)]
-#[derive(Drop)]
+#[derive(Clone, Copy)]
 pub struct Record {
     pub next: u32,
     pub bits: u64,
 }
 
 // The COUNT that a message may have, if there is one.
-#[derive(Drop)]
+#[derive(Clone, Copy)]
 pub enum Candidate {
     Nothing,
     At(u32),
@@ -23,7 +24,7 @@ pub enum Candidate {
 
 // What an opening takes a message as: a late COUNT, a forward one, or none, for want of a forward candidate (refusal 6) or because the code is wrong for
 // every candidate (refusal 7).
-#[derive(Drop)]
+#[derive(Clone, Copy)]
 pub enum Opening {
     Late(u32),
     Forward(u32),

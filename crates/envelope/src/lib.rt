@@ -1,4 +1,5 @@
 // 5GS and EPS messages, initial messages with their container, and the S1-to-N1 container as octets, made and read with a context's keys.
+#![tactic(auto)]
 ghost use Rattle.std.specs.Prelude.{◌≡◌, ◌+◌, ◌-◌, ◌≤◌, length, drop};
 ghost use Rattle.nas_core.specs.Keyed.{payload};
 ghost use Rattle.nas_core.specs.Leaves.{read_as};
@@ -16,7 +17,7 @@ use nas_core::Core;
 pub use outgoing::put_initial;
 
 // 18, or how many octets the container's message has: none where there is no container.
-#[derive(Drop)]
+#[derive(Clone, Copy)]
 pub enum Inside {
     Refused,
     Handed(usize),

@@ -1,4 +1,5 @@
 // Late messages survive a handover between accesses: a message sealed on one connection that arrives on the other is opened on the one that sealed it.
+#![tactic(auto)]
 ghost use Rattle.std.specs.Prelude.{◌≡◌, not, ◌&&◌};
 ghost use Rattle.nas_core.specs.Keyed.{wraps};
 ghost use Rattle.handover.specs.Across.{other, number_of, is_missed, both_of, leaves_across, elsewhere_of, across_of};
@@ -7,13 +8,13 @@ use nas_5gs::{Connection, Context, Direction, OpenAnswer};
 use nas_core::Core;
 
 // `connection` is the one that the message was taken on, or arrived on if it is refused; `answer` is what `open` answers there.
-#[derive(Drop)]
+#[derive(Clone, Copy)]
 pub struct AcrossAnswer {
     pub connection: Connection,
     pub answer: OpenAnswer,
 }
 
-#[derive(Drop)]
+#[derive(Clone, Copy)]
 pub struct AcrossDone {
     pub answer: AcrossAnswer,
     pub context: Context,

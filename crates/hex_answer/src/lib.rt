@@ -1,4 +1,5 @@
 // A call of a hex line performed on a context, and the line of its answer told, whole or in pieces.
+#![tactic(auto)]
 ghost use Rattle.std.specs.Prelude.{◌≡◌, ◌&&◌, ◌+◌, ◌≤◌, eqb, length};
 
 use aes::Key;
@@ -9,7 +10,7 @@ use nas_5gs::Context;
 use nas_core::Core;
 
 // What a line leaves: its slot's context, and the place after its answer.
-#[derive(Drop)]
+#[derive(Clone, Copy)]
 pub struct Reply {
     pub context: Context,
     pub at: usize,

@@ -1,4 +1,5 @@
 // A call performed on an EPS context: which function of nas_eps is called with which numbers, and its answer as one value and as a line.
+#![tactic(auto)]
 ghost use Rattle.std.specs.Prelude.{◌≡◌};
 ghost use Rattle.nas_eps.specs.Leaves.{leaves};
 ghost use Rattle.hex_eps.specs.Answers.{change_answer, use_answer, open_answer};
@@ -11,7 +12,7 @@ use hex_eps_parse::Line;
 use nas_eps::{ChangeAnswer, Context, OpenAnswer, UseAnswer};
 
 // What is printed of a call, but for the octets that it wrote.
-#[derive(Drop)]
+#[derive(Clone, Copy)]
 pub enum Answer {
     Bad,
     Done,
@@ -34,7 +35,7 @@ pub enum Answer {
     },
 }
 
-#[derive(Drop)]
+#[derive(Clone, Copy)]
 pub struct Done {
     pub answer: Answer,
     pub context: Context,

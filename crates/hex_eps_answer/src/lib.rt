@@ -1,4 +1,5 @@
 // A call of an EPS hex line performed on a context, and the line of its answer told, whole or in pieces.
+#![tactic(auto)]
 ghost use Rattle.std.specs.Prelude.{◌≤◌, length};
 
 use hex_eps::{Answer, Done};
@@ -6,7 +7,7 @@ use hex_eps_parse::{Call, Line};
 use nas_eps::Context;
 
 // What a line leaves: its slot's context, and the place after its answer.
-#[derive(Drop)]
+#[derive(Clone, Copy)]
 pub struct Reply {
     pub context: Context,
     pub at: usize,

@@ -1,4 +1,5 @@
 // An EPS hex line parsed to one value: the call that it is, in numbers, with keys, next COUNTs and octets beside it.
+#![tactic(auto)]
 ghost use Rattle.std.specs.Prelude.{◌≡◌, length};
 ghost use Rattle.hex_lines.specs.Line.{written};
 ghost use Rattle.hex_eps_parse.specs.Lines.{counted, with_octets, line_of, octets_in};
@@ -8,7 +9,7 @@ mod heads;
 use hex_lines::Decoded;
 
 // The calls, each with the numbers of its line. A direction is 0 or 1.
-#[derive(Drop)]
+#[derive(Clone, Copy)]
 pub enum Call {
     Bad,
     New {
@@ -38,7 +39,7 @@ pub enum Call {
     Show,
 }
 
-#[derive(Drop)]
+#[derive(Clone, Copy)]
 pub struct Line {
     pub slot: usize,
     pub call: Call,

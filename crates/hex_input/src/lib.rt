@@ -1,4 +1,5 @@
 // A hex line as it is read, piece by piece: the front of its text, far longer than any line without octets, and the octets of the digits that it ends with.
+#![tactic(auto)]
 ghost use Rattle.std.specs.Prelude.{◌≡◌, ◌≤◌, length, take};
 ghost use Rattle.hex_input.specs.Read.{ended, ended_eps};
 ghost use Rattle.hex_parse.specs.Lines.{line_of};
@@ -7,7 +8,7 @@ ghost use Rattle.hex_eps_parse.specs.Lines.{line_of as eps_line_of};
 use hex_parse::Line;
 
 // Of the line that is being read: how much of its text is held, and with how many digits it ends.
-#[derive(Drop)]
+#[derive(Clone, Copy)]
 pub struct Input {
     pub held: usize,
     pub digits: usize,

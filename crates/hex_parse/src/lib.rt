@@ -1,4 +1,5 @@
 // A hex line parsed to one value: the call that it is, in numbers, with keys, next COUNTs and octets beside it.
+#![tactic(auto)]
 ghost use Rattle.std.specs.Prelude.{◌≡◌, length};
 ghost use Rattle.hex_lines.specs.Line.{written};
 ghost use Rattle.hex_parse.specs.Lines.{counted, is_none, with_octets, line_of, octets_in};
@@ -9,7 +10,7 @@ mod heads;
 use hex_lines::Decoded;
 
 // The calls, each with the numbers of its line. A direction is 0 or 1, a connection 1 or 2.
-#[derive(Drop)]
+#[derive(Clone, Copy)]
 pub enum Call {
     Bad,
     New {
@@ -73,7 +74,7 @@ pub enum Call {
     },
 }
 
-#[derive(Drop)]
+#[derive(Clone, Copy)]
 pub struct Line {
     pub slot: usize,
     pub call: Call,

@@ -1,4 +1,5 @@
 // A call performed on a context: which function of nas_5gs is called with which numbers, and its answer as one value.
+#![tactic(auto)]
 ghost use Rattle.std.specs.Prelude.{◌≡◌, length, replicate};
 ghost use Rattle.nas_5gs.specs.Leaves.{leaves_two};
 ghost use Rattle.hex_perform.specs.Answers.{change_answer, use_answer, octet_answer, open_answer, across_answer, eps_answer, verify_answer};
@@ -12,7 +13,7 @@ use nas_5gs::{
 };
 
 // What is printed of a call, but for the octets that it wrote. `Content` is refusal 8 with the number that it carries.
-#[derive(Drop)]
+#[derive(Clone, Copy)]
 pub enum Answer {
     Bad,
     Done,
@@ -70,7 +71,7 @@ pub enum Answer {
     },
 }
 
-#[derive(Drop)]
+#[derive(Clone, Copy)]
 pub struct Done {
     pub answer: Answer,
     pub context: Context,

@@ -1,4 +1,5 @@
 // Initial messages and their NAS message container: the walk over optional parts, the cleartext message, the container's place. No key, no COUNT.
+#![tactic(auto)]
 ghost use Rattle.std.specs.Prelude.{◌≡◌, ◌+◌, ◌≤◌, ◌<◌, length, get_or};
 ghost use Rattle.initial.specs.Parts.{format_of, head_of, number, value_length, part_length};
 ghost use Rattle.initial.specs.Walk.{walk_from, container_in, kept, container_of};
@@ -7,7 +8,7 @@ ghost use Rattle.initial.specs.Outer.{is_hideable, hides, outer_length, front_of
 ghost use Rattle.initial.specs.Inside.{is_asked, is_inside};
 
 // How a part is framed, by its identifier alone.
-#[derive(Drop)]
+#[derive(Clone, Copy)]
 pub enum Format {
     // Types 1 and 2: one octet, no value.
     Single,
@@ -18,7 +19,7 @@ pub enum Format {
 }
 
 // The NAS message container of a message: at which octet its value starts, and how many it has. `Fails` is that the walk fails.
-#[derive(Drop)]
+#[derive(Clone, Copy)]
 pub enum Container {
     Fails,
     Absent,
@@ -175,7 +176,7 @@ pub fn put_front(message: &[u8], out: &mut [u8])
     ensures { out.new ≡ front_of message.now (length message.now) }
 {
     let n = mandatory_length(message);
-    bytes::copy(&message[..n], out);
+    out[..n].copy_from_slice(&message[..n]);
     out[n] = 0x71;
     out[n + 1] = (message.len() / 256) as u8;
     out[n + 2] = (message.len() % 256) as u8;

@@ -1,4 +1,5 @@
 // A journal of calls: which octets are a record, one record written, and what stands at the front of a window of a journal that is read by pieces.
+#![tactic(auto)]
 ghost use Rattle.std.specs.Prelude.{◌≡◌, ◌++◌, ◌+◌, ◌*◌, ◌≤◌, ◌<◌, min, length, get_or, drop};
 ghost use Rattle.journal.specs.Records.{is_allowed, size_at, well_formed, head_of, record_of};
 ghost use Rattle.journal.specs.Write.{writes, refusal_of, write_of};
@@ -11,7 +12,7 @@ const HEAD: usize = 5;
 
 // At the front of a window: a call of a kind with n bytes, from its sixth octet on; no record, so that one octet is passed over; more octets are needed;
 // nothing is left.
-#[derive(Drop)]
+#[derive(Clone, Copy)]
 pub enum Step {
     Call { kind: u8, n: usize },
     Pass,
@@ -19,7 +20,7 @@ pub enum Step {
     End,
 }
 
-#[derive(Drop)]
+#[derive(Clone, Copy)]
 pub enum Written {
     Refused(u8),
     Octets(usize),
@@ -152,9 +153,9 @@ pub fn put_bytes(front: &[u8], rest: &[u8], out: &mut [u8])
     requires { length out.old ≡ length front.now + length rest.now }
     ensures { out.new ≡ front.now ++ rest.now }
 {
-    bytes::copy(front, out);
     let n = front.len();
-    bytes::copy(rest, &mut out[n..]);
+    out[..n].copy_from_slice(front);
+    out[n..].copy_from_slice(rest);
 }
 
 fn put_record(kind: u8, front: &[u8], rest: &[u8], out: &mut [u8])

@@ -1,4 +1,5 @@
 // The calls of a journal as values: which call a record's bytes are, and a call's record written.
+#![tactic(auto)]
 ghost use Rattle.std.specs.Prelude.{◌≡◌, ◌∷◌, ◌++◌, ◌+◌, ◌*◌, ◌/◌, ◌%◌, ◌≤◌, ◌<◌, min, length, get_or, drop};
 ghost use Rattle.journal.specs.Write.{writes, write_of};
 ghost use Rattle.journal_calls.specs.Fields.{two, four, room_at, count_at, key_at, counts_in, counts_of};
@@ -8,7 +9,7 @@ use journal::Written;
 
 // A call but for what stands at the end of its bytes: keys and next COUNTs, a message, a value. A place is 0 uplink and 1 downlink of 3GPP access, 2 and 3 of
 // non-3GPP access; a connection 0 3GPP, 1 non-3GPP. A host that lends more than 65,535 octets says 65,535.
-#[derive(Drop)]
+#[derive(Clone, Copy)]
 pub enum Call {
     Unknown,
     New { integrity: u8, ciphering: u8 },
@@ -183,7 +184,7 @@ fn key(octets: &[u8], at: usize) -> [u8; 16]
     if octets.len() < end {
         return key;
     }
-    bytes::copy(&octets[at..end], &mut key);
+    key.copy_from_slice(&octets[at..end]);
     key
 }
 

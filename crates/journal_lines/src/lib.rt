@@ -1,4 +1,5 @@
 // Hex lines and the calls of a journal: the record of a line written, the line that a record's bytes are.
+#![tactic(auto)]
 ghost use Rattle.std.specs.Prelude.{◌≡◌, ◌++◌, ◌+◌, ◌/◌, ◌%◌, ◌<◌, min};
 ghost use Rattle.journal.specs.declared.Written.TheVariants as Written;
 ghost use Rattle.journal.specs.Write.{writes, write_of};
@@ -11,7 +12,7 @@ use hex_parse::{Call, Line};
 use journal::Written;
 
 // What stands behind the front of a call's bytes.
-#[derive(Drop)]
+#[derive(Clone, Copy)]
 pub enum Behind {
     Keys,
     State,

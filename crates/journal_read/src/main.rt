@@ -1,5 +1,6 @@
 // Reads a journal of any length from standard input, performs its calls on one context, and prints the line of each; of octets that are no record it prints how
 // many were skipped.
+#![tactic(auto)]
 ghost use Rattle.std.specs.Prelude.{◌+◌, ◌≤◌, length};
 
 use hex_parse::Line;
@@ -8,7 +9,7 @@ use nas_5gs::Context;
 
 // What is kept from step to step: the context, how many octets were skipped so far, the place after what is printed, and where in the window those octets lie
 // that were read and not yet passed.
-#[derive(Drop)]
+#[derive(Clone, Copy)]
 struct Reader {
     context: Context,
     skipped: u64,

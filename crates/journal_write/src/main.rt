@@ -1,4 +1,5 @@
 // Reads hex lines from standard input and writes the journal of those that are calls on slot 0 to standard output. It makes no call and keeps no context.
+#![tactic(auto)]
 ghost use Rattle.std.specs.Prelude.{◌+◌, ◌≤◌, length};
 
 use hex_input::Input;
@@ -6,14 +7,14 @@ use hex_parse::Line;
 use journal::Written;
 
 // What is kept from line to line: the line that is being read, how many were left out, and the place after what is written.
-#[derive(Drop)]
+#[derive(Clone, Copy)]
 struct Session {
     input: Input,
     left: u64,
     at: usize,
 }
 
-#[derive(Drop)]
+#[derive(Clone, Copy)]
 struct Turn {
     session: Session,
     is_last: bool,

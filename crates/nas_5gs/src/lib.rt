@@ -1,4 +1,5 @@
 // The 5GS NAS security context and its calls. Every call takes the context by value and hands it back with its answer.
+#![tactic(auto)]
 ghost use Rattle.std.specs.Prelude.{◌≡◌, false, [], ◌∷◌, ◌+◌, ◌≤◌, ◌<◌};
 ghost use Rattle.count.specs.Rule.{exhausted};
 ghost use Rattle.nas_core.specs.Keyed.{wraps};
@@ -13,13 +14,13 @@ mod seal;
 use count::Record;
 use nas_core::Core;
 
-#[derive(Drop)]
+#[derive(Clone, Copy)]
 pub enum Direction {
     Uplink,
     Downlink,
 }
 
-#[derive(Drop)]
+#[derive(Clone, Copy)]
 pub enum Connection {
     ThreeGpp,
     Non3Gpp,
@@ -27,7 +28,7 @@ pub enum Connection {
 
 // Four records in a row: uplink and downlink of 3GPP access, then of non-3GPP access.
 #[repr(C)]
-#[derive(Drop)]
+#[derive(Clone, Copy)]
 pub struct Context {
     pub core: Core,
     pub records: [Record; 4],
@@ -39,26 +40,26 @@ const EPS_PLACE: usize = 0;
 const CONTAINER_PLACE: usize = 1;
 
 // Creation, restore, reselection and window size.
-#[derive(Drop)]
+#[derive(Clone, Copy)]
 pub enum ChangeAnswer {
     Refused(u8),
     Done,
 }
 
-#[derive(Drop)]
+#[derive(Clone, Copy)]
 pub struct ChangeDone {
     pub answer: ChangeAnswer,
     pub context: Context,
 }
 
 // A call that uses a COUNT: it answers it, and how many octets it wrote.
-#[derive(Drop)]
+#[derive(Clone, Copy)]
 pub enum UseAnswer {
     Refused(u8),
     Used { count: u32, wrote: usize },
 }
 
-#[derive(Drop)]
+#[derive(Clone, Copy)]
 pub struct UseDone {
     pub answer: UseAnswer,
     pub context: Context,
@@ -66,7 +67,7 @@ pub struct UseDone {
 
 // A message opened: the distance says how many COUNTs a forward one skipped, or how far below the highest used a late one lies.
 // `second` is how many octets of the container's message stand in the second output. `Content` is refusal 8 and has the number that it carries.
-#[derive(Drop)]
+#[derive(Clone, Copy)]
 pub enum OpenAnswer {
     Refused(u8),
     Accepted {
@@ -85,13 +86,13 @@ pub enum OpenAnswer {
     },
 }
 
-#[derive(Drop)]
+#[derive(Clone, Copy)]
 pub struct OpenDone {
     pub answer: OpenAnswer,
     pub context: Context,
 }
 
-#[derive(Drop)]
+#[derive(Clone, Copy)]
 pub enum EpsOpenAnswer {
     Refused(u8),
     Accepted {
@@ -107,33 +108,33 @@ pub enum EpsOpenAnswer {
     },
 }
 
-#[derive(Drop)]
+#[derive(Clone, Copy)]
 pub struct EpsOpenDone {
     pub answer: EpsOpenAnswer,
     pub context: Context,
 }
 
 // The N1-to-S1 container made: its one octet.
-#[derive(Drop)]
+#[derive(Clone, Copy)]
 pub enum OctetAnswer {
     Refused(u8),
     Made { count: u32, octet: u8 },
 }
 
-#[derive(Drop)]
+#[derive(Clone, Copy)]
 pub struct OctetDone {
     pub answer: OctetAnswer,
     pub context: Context,
 }
 
 // The N1-to-S1 container verified: it writes nothing.
-#[derive(Drop)]
+#[derive(Clone, Copy)]
 pub enum VerifyAnswer {
     Refused(u8),
     Verified { count: u32, distance: u32 },
 }
 
-#[derive(Drop)]
+#[derive(Clone, Copy)]
 pub struct VerifyDone {
     pub answer: VerifyAnswer,
     pub context: Context,

@@ -1,6 +1,7 @@
 // The calls for C and for Rust: directions and connections as numbers, every answer as one struct, contexts by value or changed where they lie. Each contract
 // is one equality, for every input, with the definition of the call that it covers: nothing is decided here but whether there is such a direction and
 // connection.
+#![tactic(auto)]
 ghost use Rattle.std.specs.Prelude.{◌≡◌};
 ghost use Rattle.nas_c.specs.Numbers.{no_direction, no_connection, no_way, direction_of, connection_of};
 
@@ -16,7 +17,7 @@ use nas_5gs::{Connection, Context, Direction};
 
 // An answer's values: `number` is 0 for a success, else the refusal; what an answer has no value for is 0.
 #[repr(C)]
-#[derive(Drop)]
+#[derive(Clone, Copy)]
 pub struct Shown {
     pub number: u8,
     pub carried: u8,
@@ -30,14 +31,14 @@ pub struct Shown {
 }
 
 #[repr(C)]
-#[derive(Drop)]
+#[derive(Clone, Copy)]
 pub struct Left {
     pub answer: Shown,
     pub context: Context,
 }
 
 #[repr(C)]
-#[derive(Drop)]
+#[derive(Clone, Copy)]
 pub struct EpsLeft {
     pub answer: Shown,
     pub context: nas_eps::Context,

@@ -1,4 +1,5 @@
 // What a 5GS and an EPS context share: keys, codes and size, the code of octets and their ciphering, and a record's COUNT verified and used.
+#![tactic(auto)]
 ghost use Rattle.std.specs.Prelude.{◌≡◌, true, false, cond, ◌++◌, ◌+◌, ◌-◌, ◌*◌, ◌≤◌, ◌<◌, length, take, drop, get_or};
 ghost use Rattle.count.specs.Rule.{exhausted, forward_of, late_of, try_forward};
 ghost use Rattle.refusals.specs.Order.{first};
@@ -15,7 +16,7 @@ use count::{Candidate, Opening, Record};
 pub const LIMIT: usize = 65535;
 
 #[repr(C)]
-#[derive(Drop)]
+#[derive(Clone, Copy)]
 pub struct Core {
     pub integrity: u8,
     pub ciphering: u8,

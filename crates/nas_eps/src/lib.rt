@@ -1,4 +1,5 @@
 // The EPS NAS security context and its calls. Every call takes the context by value and hands it back with its answer.
+#![tactic(auto)]
 ghost use Rattle.std.specs.Prelude.{◌≡◌, false, [], ◌∷◌, ◌+◌, ◌≤◌, ◌<◌};
 ghost use Rattle.count.specs.Rule.{exhausted};
 ghost use Rattle.nas_core.specs.Keyed.{wraps};
@@ -14,7 +15,7 @@ mod seal;
 use count::Record;
 use nas_core::Core;
 
-#[derive(Drop)]
+#[derive(Clone, Copy)]
 pub enum Direction {
     Uplink,
     Downlink,
@@ -22,7 +23,7 @@ pub enum Direction {
 
 // Two records, uplink and downlink.
 #[repr(C)]
-#[derive(Drop)]
+#[derive(Clone, Copy)]
 pub struct Context {
     pub core: Core,
     pub records: [Record; 2],
@@ -32,26 +33,26 @@ pub struct Context {
 const UPLINK: usize = 0;
 
 // Creation, restore, reselection and window size.
-#[derive(Drop)]
+#[derive(Clone, Copy)]
 pub enum ChangeAnswer {
     Refused(u8),
     Done,
 }
 
-#[derive(Drop)]
+#[derive(Clone, Copy)]
 pub struct ChangeDone {
     pub answer: ChangeAnswer,
     pub context: Context,
 }
 
 // A seal: the COUNT that it used, and how many octets it wrote.
-#[derive(Drop)]
+#[derive(Clone, Copy)]
 pub enum UseAnswer {
     Refused(u8),
     Used { count: u32, wrote: usize },
 }
 
-#[derive(Drop)]
+#[derive(Clone, Copy)]
 pub struct UseDone {
     pub answer: UseAnswer,
     pub context: Context,
@@ -60,7 +61,7 @@ pub struct UseDone {
 // A message opened: the distance says how many COUNTs a forward one skipped, or how far below the highest used a late one lies.
 // A SERVICE REQUEST hands over no octet; which key set its identifier names is for the host to compare. Its code has 16 bits: one that is out of reach is
 // taken as another COUNT one time in 65,536.
-#[derive(Drop)]
+#[derive(Clone, Copy)]
 pub enum OpenAnswer {
     Refused(u8),
     Accepted {
@@ -76,7 +77,7 @@ pub enum OpenAnswer {
     },
 }
 
-#[derive(Drop)]
+#[derive(Clone, Copy)]
 pub struct OpenDone {
     pub answer: OpenAnswer,
     pub context: Context,

@@ -1,9 +1,10 @@
 // Reads hex lines from standard input, performs each on one of eight 5GS or eight EPS contexts, and prints one line for each.
+#![tactic(auto)]
 use hex_input::Input;
 use hex_parse::{Call, Line};
 
 // What is kept from line to line: the slots, the line that is being read, and the place after what is printed.
-#[derive(Drop)]
+#[derive(Clone, Copy)]
 struct Session {
     slots: [nas_5gs::Context; 8],
     eps: [nas_eps::Context; 8],
@@ -11,7 +12,7 @@ struct Session {
     at: usize,
 }
 
-#[derive(Drop)]
+#[derive(Clone, Copy)]
 struct Turn {
     session: Session,
     is_last: bool,

@@ -1,1 +1,2 @@
 // The promises: the three demands over the public calls. Definitions and proofs alone.
+#![tactic(auto)]

@@ -1,1 +1,2 @@
 // Refusals as lists in their order: definitions and laws alone.
+#![tactic(auto)]

@@ -2,6 +2,7 @@
 //   e1 e2 e3  cipher 8,192 octets in place by 128-NEA1, 128-NEA2 or 128-NEA3, the round's number as COUNT, and print the first four octets
 //             at the end
 //   i1 i2 i3  make their code by 128-NIA1, 128-NIA2 or 128-NIA3 and write its first octet over their first one
+#![tactic(auto)]
 ghost use Rattle.std.specs.Prelude.{◌≤◌, length};
 
 const KEY: [u8; 16] = [0, 1, 2, 3, 4, 5, 6, 7, 8, 9, 10, 11, 12, 13, 14, 15];

@@ -3,10 +3,11 @@
 //   cmac NAME key message                        uia2 NAME key count fresh direction message
 //   neaA NAME key count bearer direction octets  niaA NAME key count bearer direction message; A is 1, 2 or 3
 //   snow3gat NAME key iv n, zucat NAME key iv n: word n of the key stream, counted from 1
+#![tactic(auto)]
 ghost use Rattle.std.specs.Prelude.{◌≡◌, ◌≤◌, length};
 
 // A word of a line.
-#[derive(Drop)]
+#[derive(Clone, Copy)]
 struct Span {
     from: usize,
     to: usize,

@@ -1,4 +1,5 @@
 // ZUC (TS 35.222), 128-EEA3 and 128-EIA3 (TS 35.221): 128-NEA3 and 128-NIA3 (TS 33.501 Annex D).
+#![tactic(auto)]
 mod ciphering;
 mod integrity;
 mod keystream;
@@ -11,7 +12,7 @@ pub use integrity::nia3;
 pub use keystream::stream_word;
 
 // The LFSR's cells s0 .. s15, and F's R1 and R2.
-#[derive(Drop)]
+#[derive(Clone, Copy)]
 pub struct State {
     pub cells: [u32; 16],
     pub r1: u32,
@@ -19,7 +20,7 @@ pub struct State {
 }
 
 // Two words of the key stream that follow each other, and the state behind them.
-#[derive(Drop)]
+#[derive(Clone, Copy)]
 pub struct Window {
     pub state: State,
     pub first: u32,

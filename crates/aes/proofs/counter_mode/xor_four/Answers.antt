@@ -1,0 +1,16 @@
+use Rattle.std.proofs.Common.{arith, length-set, rules}
+use Rattle.aes.proofs.Over.{stored}
+use Rattle.aes.proofs.counter_mode.xor_four.Goals as goal
+
+pub bounds-m-i-6 : goal.bounds-m-i-6
+bounds-m-i-6 c =
+    simp length-set (omega arith)
+
+pub bounds-m-i-7 : goal.bounds-m-i-7
+bounds-m-i-7 c =
+    simp length-set (omega arith)
+
+pub returns : goal.returns
+returns c =
+    let a = c.args in
+    stored a.m.now a.t3 a.i (omega arith)

@@ -1,0 +1,8 @@
+use Rattle.std.proofs.Common.{div-one, rules}
+use Rattle.aes.specs.Nas.{head}
+use Rattle.aes.proofs.nas.head.Goals as goal
+
+pub returns : goal.returns
+unfolding head
+returns c =
+    rw div-one

@@ -1,0 +1,6 @@
+use Rattle.std.proofs.Common.{rules}
+use Rattle.aes.proofs.nas.nea2.Goals as goal
+
+pub returns : goal.returns
+returns c =
+    c.nea2_with.ensures

@@ -1,0 +1,6 @@
+use Rattle.std.proofs.Common.{rules}
+use Rattle.aes.proofs.nas.nea2_under.Goals as goal
+
+pub returns : goal.returns
+returns c =
+    rw (c.ctr_with.ensures, c.first_counter.ensures)

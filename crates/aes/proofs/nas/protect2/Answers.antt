@@ -1,0 +1,27 @@
+use Rattle.std.proofs.Common.{ℕ, List, length, ap, ◌∙◌, ⊎_elim, rules}
+use Rattle.aes.specs.Keys.{nea2_by}
+use Rattle.aes.proofs.Laws.{nea2-length}
+use Rattle.aes.proofs.Parts.{behind, same_length, short}
+use Rattle.aes.proofs.nas.protect2.Goals as goal
+
+pub returns-then-m-ge128 : goal.returns-then-m-ge128
+unfolding nea2_by
+returns-then-m-ge128 c =
+    record { ciphered = c.protect_long.ensures.ciphered; code = c.protect_long.ensures.code }
+
+pub returns : goal.returns
+unfolding nea2_by
+returns c =
+    let a = c.args in
+    let m = a.m.now in
+    let k = a.ciphering-key in
+    let f : (List ℕ → List ℕ) = λ l. nea2_by k a.count a.bearer a.direction l in record { ciphered = ⊎_elim
+          (λ w. w.7 ∙ behind 1 m _ f w.4.ensures)
+          (λ w. w.1 ∙ short f (λ l. nea2-length k a.count a.bearer a.direction l) m w.0.left) c.if-m-gt1.branch; code = c.nia2_with.ensures }
+
+pub shape_of-m : goal.shape_of-m
+shape_of-m c =
+    let a = c.args in
+    let k = a.ciphering-key in
+    ap length (returns-2 c).0 ∙
+    same_length (λ (l : List ℕ). nea2_by k a.count a.bearer a.direction l) (λ l. nea2-length k a.count a.bearer a.direction l) a.m.now

@@ -1,0 +1,19 @@
+use Rattle.std.proofs.Common.{◌≡◌, ℕ, ◌+◌, ◌-◌, ◌*◌, ◌/◌, ◌%◌, ◌<◌, ◌≤◌, List, [], ◌∷◌, ◌++◌, length, get_or, take, drop, refl, ap, ◌∙◌, ap₂, append_assoc, arith, rules}
+use Rattle.aes.specs.Octets.{xor}
+use Rattle.aes.specs.Cipher.{from_state, cipher}
+use Rattle.aes.specs.Counter.{counter, ctr_of}
+use Rattle.aes.specs.Cmac.{chain}
+use Rattle.aes_block.specs.Mix.{Shared}
+use Rattle.aes_block.proofs.Lengths.{cipher-length}
+use Rattle.aes_block.proofs.Rounds.{back}
+use Rattle.aes.proofs.Chain.{entering, entering-same, chain-begin, nine, chain-out}
+use Rattle.aes.proofs.Beside.{part_length, from-none, long, all_done, ctr-length, start-kept, summed}
+use Rattle.aes.proofs.sealing.cipher_and_chain.Given as goal
+
+abbrev pub invariant-loop-i : goal.invariant-loop-i
+invariant-loop-i l = (32 ≤ l.i) × (l.i ≤ l.end) × (l.i % 16 ≡ 0) ×
+    ((l : List ℕ) → l.initial.p ≡ ctr_of (cipher l.w) l.t (take l.initial.i l) ++ drop l.initial.i l → l.p ≡ ctr_of (cipher l.w) l.t (take l.i l) ++ drop l.i l) ×
+    ((h : List ℕ) → length h ≡ 9 → from_state l.initial.x ≡ entering (cipher l.v) (h ++ l.initial.p) (l.initial.i / 16 - 2) → from_state l.x ≡ entering (cipher l.v) (h ++ l.p) (l.i / 16 - 2))
+
+abbrev pub decreases-loop-i : goal.decreases-loop-i
+decreases-loop-i l = l.end - l.i

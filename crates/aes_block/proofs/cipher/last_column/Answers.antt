@@ -1,0 +1,6 @@
+use borrow.Author.Rules.{rules}
+use Rattle.aes_block.proofs.cipher.last_column.Goals as goal
+
+pub returns : goal.returns
+returns c =
+    rw (c.unmixed_octets.ensures, c.word_at.ensures)

@@ -1,0 +1,6 @@
+use borrow.Author.Rules.{rules}
+use Rattle.aes_block.proofs.cipher.mixed_column.Goals as goal
+
+pub returns : goal.returns
+returns c =
+    rw (c.mixed_octets.ensures, c.word_at.ensures)

@@ -1,0 +1,7 @@
+use Rattle.aes_block.proofs.Mix.{octet-1}
+use borrow.Author.Rules.{rules}
+use Rattle.aes_block.proofs.columns.unmixed.Goals as goal
+
+pub returns : goal.returns
+returns c =
+    rw c.entry-e.ensures (octet-1 c.args.b)

@@ -1,0 +1,19 @@
+use mathlib.Core.Path.{◌≡◌, ap₂, ◌∙◌}
+use mathlib.Core.List.{◌++◌}
+use Rattle.aes_block.specs.Mix.{onward}
+use Rattle.aes_block.proofs.Rounds.{first, second, three}
+use borrow.Author.Rules.{rules}
+use Rattle.aes_block.proofs.pairs.two_to_6.Goals as goal
+
+pub returns : goal.returns
+returns c =
+    let a = c.args in
+    let w = a.w.now in
+    let v = a.v.now in
+    let e = c.two_to_3-s.ensures in
+    let p : c.left.result ≡ onward w 1 a.p = c.left.ensures ∙ first w v a.p a.q _ 0 e in
+    let q : c.right.result ≡ onward v 1 a.q = c.right.ensures ∙ second w v a.p a.q _ 0 e in
+    c.beside.ensures ∙
+    ap₂ ◌++◌
+    (three w 1 a.p _ _ _ _ p c.middle_round-a.ensures c.middle_round-c.ensures c.middle_round-e.ensures)
+    (three v 1 a.q _ _ _ _ q c.middle_round-b.ensures c.middle_round-d.ensures c.middle_round.ensures)

@@ -1,0 +1,19 @@
+use Rattle.aes_block.specs.Mix.{two_rounds}
+use borrow.Author.Rules.{rules}
+use Rattle.aes_block.proofs.shared_rounds.second_state.Goals as goal
+
+pub returns : goal.returns
+unfolding two_rounds
+returns c =
+    rw (
+      c.xor_word-4.ensures,
+      c.from_row_1.ensures,
+      c.xor_word-3.ensures,
+      c.from_row_2.ensures,
+      c.xor_word-2.ensures,
+      c.from_row_3-2.ensures,
+      c.xor_word.ensures,
+      c.from_row_0.ensures,
+      c.xor_word-x.ensures,
+      c.from_row_3.ensures,
+    )

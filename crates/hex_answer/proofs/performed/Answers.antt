@@ -1,0 +1,20 @@
+use native.Mathlib.Omega.{arith}
+use lib.ListN.{length-take}
+use borrow.Author.Rules.{rules}
+use Rattle.hex_answer.proofs.performed.Goals as goal
+
+pub slice_bounds-fill-end-2 : goal.slice_bounds-fill-end-2
+slice_bounds-fill-end-2 c =
+    simp length-take (omega arith)
+
+pub slice_bounds-fill-end-4 : goal.slice_bounds-fill-end-4
+slice_bounds-fill-end-4 c =
+    simp length-take (omega arith)
+
+pub slice_bounds-perform-end-2 : goal.slice_bounds-perform-end-2
+slice_bounds-perform-end-2 c =
+    simp length-take (omega arith)
+
+pub slice_bounds-perform-end-4 : goal.slice_bounds-perform-end-4
+slice_bounds-perform-end-4 c =
+    simp length-take (omega arith)

@@ -1,0 +1,8 @@
+use Rattle.hex_eps.specs.Answers as answers
+use Rattle.hex_eps.proofs.Laws as laws
+use borrow.Author.Rules.{rules}
+use Rattle.hex_eps.proofs.calls.request.Goals as goal
+
+pub returns : goal.returns
+returns c =
+    laws.answered answers.use_answer _ _ _ _ _ _ c.used.ensures.0 c.used.ensures.1 c.service_request.ensures

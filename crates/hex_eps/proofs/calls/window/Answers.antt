@@ -1,0 +1,8 @@
+use Rattle.hex_eps.specs.Answers as answers
+use Rattle.hex_eps.proofs.Laws as laws
+use borrow.Author.Rules.{rules}
+use Rattle.hex_eps.proofs.calls.window.Goals as goal
+
+pub returns : goal.returns
+returns c =
+    laws.answered answers.change_answer _ _ _ _ _ _ c.changed.ensures.0 c.changed.ensures.1 c.set_window.ensures

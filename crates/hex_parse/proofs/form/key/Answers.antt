@@ -1,0 +1,8 @@
+use Rattle.hex_parse.specs.Form.{key_at}
+use borrow.Author.Rules.{rules}
+use Rattle.hex_parse.proofs.form.key.Goals as goal
+
+pub returns : goal.returns
+unfolding key_at
+returns c =
+    cc

@@ -1,0 +1,8 @@
+use Rattle.hex_perform.specs.Answers as answers
+use Rattle.hex_perform.proofs.Laws as laws
+use borrow.Author.Rules.{rules}
+use Rattle.hex_perform.proofs.calls.opaque.Goals as goal
+
+pub returns : goal.returns
+returns c =
+    rw (← c.direction_of-d.ensures, ← c.connection_of-k.ensures) (laws.answered answers.use_answer _ _ _ _ _ _ c.used.ensures.0 c.used.ensures.1 c.seal_opaque.ensures)

@@ -1,0 +1,8 @@
+use Rattle.hex_perform.specs.Answers as answers
+use Rattle.hex_perform.proofs.Laws as laws
+use borrow.Author.Rules.{rules}
+use Rattle.hex_perform.proofs.calls.open_in.Goals as goal
+
+pub returns : goal.returns
+returns c =
+    rw (← c.direction_of-d.ensures, ← c.connection_of-k.ensures) (laws.answered-two answers.open_answer _ _ _ _ _ _ _ c.opened.ensures.0 c.opened.ensures.1 c.open.ensures)

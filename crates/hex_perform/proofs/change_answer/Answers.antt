@@ -1,0 +1,6 @@
+use borrow.Author.Rules.{rules}
+use Rattle.hex_perform.proofs.change_answer.Goals as goal
+
+pub returns-in-Refused : goal.returns-in-Refused
+returns-in-Refused c =
+    rw c.in-Refused.is

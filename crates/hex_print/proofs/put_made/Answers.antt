@@ -1,0 +1,8 @@
+use native.Mathlib.Omega.{arith}
+use Rattle.hex_print.proofs.Laws as laws
+use borrow.Author.Rules.{rules}
+use Rattle.hex_print.proofs.put_made.Goals as goal
+
+pub returns : goal.returns
+returns c =
+    (laws.behind (laws.behind c.success-next.ensures.0 c.word-made.ensures.0) c.octets.ensures.0, omega (arith, c.octets.ensures.1, c.word-made.ensures.1, c.success-next.ensures.1))

@@ -1,0 +1,8 @@
+use native.Mathlib.Omega.{arith}
+use Rattle.hex_print.proofs.Laws as laws
+use borrow.Author.Rules.{rules}
+use Rattle.hex_print.proofs.put_received.Goals as goal
+
+pub returns : goal.returns
+returns c =
+    (laws.behind c.accepted-next.ensures.0 c.octets.ensures.0, omega (arith, c.octets.ensures.1, c.accepted-next.ensures.1))

@@ -1,0 +1,8 @@
+use Rattle.initial.specs.Outer.{hides}
+use borrow.Author.Rules.{rules}
+use Rattle.initial.proofs.hides.Goals as goal
+
+pub returns : goal.returns
+unfolding hides
+returns c =
+    simp c.mandatory_length.ensures.0

@@ -1,0 +1,8 @@
+use mathlib.Core.Path.{sym}
+use lib.ListN.{get_or-eq_default}
+use borrow.Author.Rules.{rules}
+use Rattle.initial.proofs.octet.Goals as goal
+
+pub returns : goal.returns
+returns c =
+    sym (get_or-eq_default c.args.octets.now 0 c.if-at-octets.false)

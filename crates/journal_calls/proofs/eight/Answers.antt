@@ -1,0 +1,7 @@
+use Rattle.journal_calls.proofs.Parts.{joined}
+use borrow.Author.Rules.{rules}
+use Rattle.journal_calls.proofs.eight.Goals as goal
+
+pub returns : goal.returns
+returns c =
+    joined c.put_bytes.ensures c.four.ensures c.four-2.ensures

@@ -1,0 +1,8 @@
+use Rattle.journal_lines.specs.Lines.{line_of}
+use borrow.Author.Rules.{rules}
+use Rattle.journal_lines.proofs.line_of.Goals as goal
+
+pub returns : goal.returns
+unfolding line_of
+returns c =
+    rw (← c.call_of.ensures, ← c.rest.ensures) c.line_for.ensures

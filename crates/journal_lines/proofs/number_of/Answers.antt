@@ -1,0 +1,62 @@
+use borrow.Author.Rules.{rules}
+use Rattle.journal_lines.proofs.number_of.Goals as goal
+
+pub returns-in-Unknown : goal.returns-in-Unknown
+returns-in-Unknown c =
+    rw c.in-Unknown.is
+
+pub returns-in-New : goal.returns-in-New
+returns-in-New c =
+    rw c.in-New.is
+
+pub returns-in-Restore : goal.returns-in-Restore
+returns-in-Restore c =
+    rw c.in-Restore.is
+
+pub returns-in-Reselect : goal.returns-in-Reselect
+returns-in-Reselect c =
+    rw c.in-Reselect.is
+
+pub returns-in-Window : goal.returns-in-Window
+returns-in-Window c =
+    rw c.in-Window.is
+
+pub returns-in-Seal : goal.returns-in-Seal
+returns-in-Seal c =
+    rw c.in-Seal.is
+
+pub returns-in-Opaque : goal.returns-in-Opaque
+returns-in-Opaque c =
+    rw c.in-Opaque.is
+
+pub returns-in-Open : goal.returns-in-Open
+returns-in-Open c =
+    rw c.in-Open.is
+
+pub returns-in-EpsSeal : goal.returns-in-EpsSeal
+returns-in-EpsSeal c =
+    rw c.in-EpsSeal.is
+
+pub returns-in-EpsOpen : goal.returns-in-EpsOpen
+returns-in-EpsOpen c =
+    rw c.in-EpsOpen.is
+
+pub returns-in-N1ToS1 : goal.returns-in-N1ToS1
+returns-in-N1ToS1 c =
+    rw c.in-N1ToS1.is
+
+pub returns-in-VerifyN1ToS1 : goal.returns-in-VerifyN1ToS1
+returns-in-VerifyN1ToS1 c =
+    rw c.in-VerifyN1ToS1.is
+
+pub returns-in-S1ToN1 : goal.returns-in-S1ToN1
+returns-in-S1ToN1 c =
+    rw c.in-S1ToN1.is
+
+pub returns-in-VerifyS1ToN1 : goal.returns-in-VerifyS1ToN1
+returns-in-VerifyS1ToN1 c =
+    rw c.in-VerifyS1ToN1.is
+
+pub returns-in-Initial : goal.returns-in-Initial
+returns-in-Initial c =
+    rw c.in-Initial.is

@@ -1,0 +1,6 @@
+use borrow.Author.Rules.{rules}
+use Rattle.journal_lines.proofs.write_state.Goals as goal
+
+pub returns : goal.returns
+returns c =
+    rw (← c.state-state.ensures) c.write.ensures

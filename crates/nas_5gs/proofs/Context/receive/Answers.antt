@@ -1,0 +1,88 @@
+use mathlib.Core.Path.{sym, ◌∙◌}
+use native.Mathlib.Omega.{arith}
+use Rattle.nas_core.proofs.Choices.{late-chosen, forward-chosen}
+use Rattle.nas_5gs.proofs.Passed.{late-near, ahead-near}
+use Rattle.nas_5gs.proofs.Handed.{shown, lent, hands}
+use Rattle.nas_5gs.specs.Open.{type_of, plain_of, opened}
+use borrow.Author.Rules.{rules}
+use Rattle.nas_5gs.proofs.Context.receive.Goals as goal
+
+pub distance_to-far-requires : goal.distance_to-far-requires
+distance_to-far-requires c =
+    late-near _ _ (late-chosen _ _ _ _ _ _ _ (c.shared_slice_known-1.given 6).fits c.requires.1 (sym c.read-choice.ensures.opening ∙ c.in-Late.is)).1
+
+pub slice_bounds-hand-end-in-Late : goal.slice_bounds-hand-end-in-Late
+slice_bounds-hand-end-in-Late c =
+    let a = c.args in
+    let x = a.t1.core in
+    let t = type_of a.message.now in
+    let e = rw c.in-Late.is at c.read-choice.ensures.plain in
+    sym (lent x t _ a.bearer a.direction a.message.now a.out.now _ e)
+
+pub hand-answer-requires : goal.hand-answer-requires
+hand-answer-requires c =
+    let a = c.args in
+    let x = a.t1.core in
+    let t = type_of a.message.now in
+    let e = rw c.in-Late.is at c.read-choice.ensures.plain in
+    λ h g. omega (arith, lent x t _ a.bearer a.direction a.message.now a.out.now _ e, c.requires.4 h g)
+
+pub used_late-requires : goal.used_late-requires
+used_late-requires c =
+    let l = late-chosen _ _ _ _ _ _ _ (c.shared_slice_known-1.given 6).fits c.requires.1 (sym c.read-choice.ensures.opening ∙ c.in-Late.is) in (search rules, l.0, l.1)
+
+pub distance_to-far-requires-in-Forward : goal.distance_to-far-requires-in-Forward
+distance_to-far-requires-in-Forward c =
+    ahead-near _ _ (forward-chosen _ _ _ _ _ _ _ (c.shared_slice_known-1.given 6).fits (sym c.read-choice.ensures.opening ∙ c.in-Forward.is)).2
+
+pub slice_bounds-hand-end-in-Forward-2 : goal.slice_bounds-hand-end-in-Forward-2
+slice_bounds-hand-end-in-Forward-2 c =
+    let a = c.args in
+    let x = a.t1.core in
+    let t = type_of a.message.now in
+    let e = rw c.in-Forward.is at c.read-choice.ensures.plain in
+    sym (lent x t _ a.bearer a.direction a.message.now a.out.now _ e)
+
+pub hand-answer-requires-in-Forward : goal.hand-answer-requires-in-Forward
+hand-answer-requires-in-Forward c =
+    let a = c.args in
+    let x = a.t1.core in
+    let t = type_of a.message.now in
+    let e = rw c.in-Forward.is at c.read-choice.ensures.plain in
+    λ h g. omega (arith, lent x t _ a.bearer a.direction a.message.now a.out.now _ e, c.requires.4 h g)
+
+pub used-requires : goal.used-requires
+used-requires c =
+    let f = forward-chosen _ _ _ _ _ _ _ (c.shared_slice_known-1.given 6).fits (sym c.read-choice.ensures.opening ∙ c.in-Forward.is) in (search rules, f.0, c.requires.1, f.1)
+
+pub returns-in-None : goal.returns-in-None
+unfolding opened
+returns-in-None c =
+    simp (sym c.read-choice.ensures.opening ∙ c.in-None.is, rw c.in-None.is at c.read-choice.ensures.plain)
+
+pub returns-in-Wrong : goal.returns-in-Wrong
+unfolding opened
+returns-in-Wrong c =
+    simp (sym c.read-choice.ensures.opening ∙ c.in-Wrong.is, rw c.in-Wrong.is at c.read-choice.ensures.plain)
+
+pub returns-in-Late : goal.returns-in-Late
+unfolding opened plain_of
+returns-in-Late c =
+    let a = c.args in
+    let x = a.t1.core in
+    let t = type_of a.message.now in
+    let e = rw c.in-Late.is at c.read-choice.ensures.plain in
+    simp (sym c.read-choice.ensures.opening ∙ c.in-Late.is)
+    (hands x t a.direction _ a.bearer _ _ _ _ _ _ _ _ _ a.out.now a.second.now
+    (shown x t _ a.bearer a.direction a.message.now a.out.now _ e) c.distance_to-far.ensures c.used_late.ensures e c.hand-answer.ensures.answer c.hand-answer.ensures.wrote)
+
+pub returns-in-Forward : goal.returns-in-Forward
+unfolding opened plain_of
+returns-in-Forward c =
+    let a = c.args in
+    let x = a.t1.core in
+    let t = type_of a.message.now in
+    let e = rw c.in-Forward.is at c.read-choice.ensures.plain in
+    simp (sym c.read-choice.ensures.opening ∙ c.in-Forward.is)
+    (hands x t a.direction _ a.bearer _ _ _ _ _ _ _ _ _ a.out.now a.second.now
+    (shown x t _ a.bearer a.direction a.message.now a.out.now _ e) c.distance_to-far-in-Forward.ensures c.used.ensures e c.hand-answer-in-Forward.ensures.answer c.hand-answer-in-Forward.ensures.wrote)

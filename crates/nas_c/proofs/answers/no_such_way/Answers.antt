@@ -1,0 +1,6 @@
+use borrow.Author.Rules.{rules}
+use Rattle.nas_c.proofs.answers.no_such_way.Goals as goal
+
+pub returns : goal.returns
+returns c =
+    rw c.refusal.ensures

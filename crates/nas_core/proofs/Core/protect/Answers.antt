@@ -1,0 +1,8 @@
+use Rattle.nas_core.specs.Keyed.{payload}
+use borrow.Author.Rules.{rules}
+use Rattle.nas_core.proofs.Core.protect.Goals as goal
+
+pub returns : goal.returns
+unfolding payload
+returns c =
+    c.seal.ensures

@@ -1,0 +1,8 @@
+use Rattle.nas_eps.specs.Changes.{resized}
+use borrow.Author.Rules.{rules}
+use Rattle.nas_eps.proofs.Context.resized.Goals as goal
+
+pub returns : goal.returns
+unfolding resized
+returns c =
+    simp (c.resize-2.ensures, c.resize.ensures)

@@ -1,0 +1,8 @@
+use Rattle.nas_eps.specs.Places.{used_late}
+use borrow.Author.Rules.{rules}
+use Rattle.nas_eps.proofs.Context.used_late.Goals as goal
+
+pub returns : goal.returns
+unfolding used_late
+returns c =
+    simp (c.with.ensures, c.use_late.ensures)

@@ -1,0 +1,9 @@
+use Rattle.snow3g.proofs.Blocks.{bit_length}
+use Rattle.snow3g.specs.Uia2.{closed}
+use Rattle.std.proofs.Common.{rules}
+use Rattle.snow3g.proofs.integrity.closed.Goals as goal
+
+pub returns : goal.returns
+unfolding closed
+returns c =
+    rw (c.product.ensures, c.eval.ensures, bit_length)

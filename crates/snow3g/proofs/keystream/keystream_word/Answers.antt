@@ -1,0 +1,19 @@
+use Rattle.std.proofs.Common.{◌≡◌, ◌-◌, ◌≤◌, refl, add-one, arith, rules}
+use Rattle.streams.specs.Stream.{after}
+use Rattle.snow3g.specs.Keystream.{step}
+use Rattle.snow3g.proofs.keystream.keystream_word.Goals as goal
+
+pub loop-done-init : goal.loop-done-init
+unfolding after
+loop-done-init c =
+    (omega arith, refl)
+
+pub loop-done-preserved : goal.loop-done-preserved
+unfolding after
+loop-done-preserved c =
+    (omega arith, rw (c.next-stepped.ensures, add-one, c.loop-done.invariant.1))
+
+pub returns : goal.returns
+returns c =
+    let e : c.loop-done.done ≡ c.args.n = omega arith in
+    rw (c.keyword.ensures, c.loop-done.invariant.1, e, c.start-m.ensures)

@@ -1,0 +1,8 @@
+use Rattle.snow3g.specs.Keystream.{keyword}
+use Rattle.std.proofs.Common.{rules}
+use Rattle.snow3g.proofs.keystream.keyword.Goals as goal
+
+pub returns : goal.returns
+unfolding keyword
+returns c =
+    rw c.output.ensures

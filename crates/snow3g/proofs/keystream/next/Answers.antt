@@ -1,0 +1,8 @@
+use Rattle.snow3g.specs.Keystream.{step}
+use Rattle.std.proofs.Common.{rules}
+use Rattle.snow3g.proofs.keystream.next.Goals as goal
+
+pub returns : goal.returns
+unfolding step
+returns c =
+    c.clock.ensures

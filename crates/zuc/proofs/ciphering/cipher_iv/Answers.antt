@@ -1,0 +1,8 @@
+use Rattle.std.proofs.Common.{div-one, rules}
+use Rattle.zuc.specs.Ciphering.{cipher_iv}
+use Rattle.zuc.proofs.ciphering.cipher_iv.Goals as goal
+
+pub returns : goal.returns
+unfolding cipher_iv
+returns c =
+    rw div-one

@@ -1,0 +1,8 @@
+use Rattle.zuc.specs.Nonlinear.{x0}
+use Rattle.std.proofs.Common.{rules}
+use Rattle.zuc.proofs.nonlinear.part0.Goals as goal
+
+pub returns : goal.returns
+unfolding x0
+returns c =
+    c.high_low.ensures

@@ -1,5 +1,6 @@
 // AES-128 (FIPS 197), counter mode (SP 800-38A), CMAC (SP 800-38B), 128-NEA2 and 128-NIA2 (TS 33.501 Annex D).
 #![tactic(auto)]
+
 mod cmac_mode;
 mod counter_mode;
 mod kept;

@@ -1,5 +1,6 @@
 // A hex line as it is read, piece by piece: the front of its text, far longer than any line without octets, and the octets of the digits that it ends with.
 #![tactic(auto)]
+
 ghost use Rattle.std.specs.Prelude.{◌≡◌, ◌≤◌, length, take};
 ghost use Rattle.hex_input.specs.Read.{ended, ended_eps};
 ghost use Rattle.hex_parse.specs.Lines.{line_of};

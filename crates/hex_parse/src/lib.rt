@@ -1,5 +1,6 @@
 // A hex line parsed to one value: the call that it is, in numbers, with keys, next COUNTs and octets beside it.
 #![tactic(auto)]
+
 ghost use Rattle.std.specs.Prelude.{◌≡◌, length};
 ghost use Rattle.hex_lines.specs.Line.{written};
 ghost use Rattle.hex_parse.specs.Lines.{counted, is_none, with_octets, line_of, octets_in};

@@ -1,5 +1,6 @@
 // A journal of calls: which octets are a record, one record written, and what stands at the front of a window of a journal that is read by pieces.
 #![tactic(auto)]
+
 ghost use Rattle.std.specs.Prelude.{◌≡◌, ◌++◌, ◌+◌, ◌*◌, ◌≤◌, ◌<◌, min, length, get_or, drop};
 ghost use Rattle.journal.specs.Records.{is_allowed, size_at, well_formed, head_of, record_of};
 ghost use Rattle.journal.specs.Write.{writes, refusal_of, write_of};

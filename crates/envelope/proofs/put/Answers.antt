@@ -29,5 +29,5 @@ pub returns : goal.returns
 returns c =
     let n = length c.args.inner.now in
     wrapped (7 + n) n c.args.out.now (back (goal.at.returns c).After-copy) refl c.requires (many (goal.at.returns c).After-copy) _ _
-    (c.wrap.ensures ∙ ap (λ (l : List ℕ). envelope c.args.core c.args.header-type c.args.count c.args.bearer c.args.direction l) (behind (7 + n) n c.args.out.now (back (goal.at.returns c).After-copy) refl c.requires (many (goal.at.returns c).After-copy) ∙ c.copy.ensures))
-    (envelope-length c.args.core c.args.header-type c.args.count c.args.bearer c.args.direction c.args.inner.now)
+    (c.wrap.ensures ∙ ap (λ (l : List ℕ). envelope c.args.core c.args.header_type c.args.count c.args.bearer c.args.direction l) (behind (7 + n) n c.args.out.now (back (goal.at.returns c).After-copy) refl c.requires (many (goal.at.returns c).After-copy) ∙ c.copy.ensures))
+    (envelope-length c.args.core c.args.header_type c.args.count c.args.bearer c.args.direction c.args.inner.now)

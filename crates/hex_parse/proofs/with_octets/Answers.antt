@@ -17,8 +17,7 @@ returns-then-is_none c =
 
 pub returns : goal.returns
 unfolding with_octets
-returns c =
-    (
+returns c = (
   simp (ne_eqb _ _ c.if-text-eq0.false, sym c.is_none.ensures ∙ c.if-is_none.false) (c.counted.ensures ∙ ap (counted c.args.line) c.decode-decoded.ensures.0),
   c.decode-decoded.ensures.1,
 )

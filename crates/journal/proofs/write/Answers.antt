@@ -48,8 +48,7 @@ slice_bounds-put_record-end-2 c =
     sym (length-take-le _ _ (room (goal.at.slice_bounds-put_record-end-2 c).Else-number-ne0).1)
 
 pub put_record-requires : goal.put_record-requires
-put_record-requires c =
-    (
+put_record-requires c = (
   omega (arith, counted (goal.at.put_record-requires c).Else-number-ne0, (room (goal.at.put_record-requires c).Else-number-ne0).0),
   length-take-le _ _ (room (goal.at.put_record-requires c).Else-number-ne0).1 ∙ ap (λ (n : ℕ). 5 + n) (counted (goal.at.put_record-requires c).Else-number-ne0),
 )

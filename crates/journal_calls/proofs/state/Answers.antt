@@ -6,5 +6,5 @@ use Rattle.journal_calls.proofs.state.Goals as goal
 pub returns : goal.returns
 returns c =
     let a = c.args in
-    joined {x = a.t1} c.put_bytes-2.ensures refl
-    (joined {x = a.t2} c.put_bytes.ensures refl c.counts_of.ensures)
+    joined {x = a.integrity_key} c.put_bytes-2.ensures refl
+    (joined {x = a.ciphering_key} c.put_bytes.ensures refl c.counts_of.ensures)

@@ -36,12 +36,12 @@ right lo hi w t =
     ltb t lo || (leb hi t || (one_of t k1 || (one_of t k2 || (one_of t k3 || (one_of t k4 || is w (way_of t))))))
 
 range : (lo hi : ℕ) (w : Way) (c : In_default-1) → below (right lo hi w) 256 ≡ true
-    → lo ≤ c.args.message-type → c.args.message-type < hi → w ≡ way_of c.args.message-type
+    → lo ≤ c.args.message_type → c.args.message_type < hi → w ≡ way_of c.args.message_type
 range lo hi w c all g h =
-    let t = c.args.message-type in
+    let t = c.args.message_type in
     let m = c.in-65.rest in
     it w (way_of t)
-    (simp (le-ltb t lo g, lt-leb hi t h, none t k1 m.0.0.0.1, none t k2 m.0.0.1, none t k3 m.0.1, none t k4 m.1) at (every (right lo hi w) 256 t all c.ranges.message-type.fits))
+    (simp (le-ltb t lo g, lt-leb hi t h, none t k1 m.0.0.0.1, none t k2 m.0.0.1, none t k3 m.0.1, none t k4 m.1) at (every (right lo hi w) 256 t all c.ranges.message_type.fits))
 
 pub returns-in-65 : goal.returns-in-65
 unfolding way_of
@@ -118,4 +118,4 @@ pub returns-in_default-5 : goal.returns-in_default-5
 unfolding way_of
 returns-in_default-5 c =
     range 109 256 Unknown c refl c.if-message_type-lt109.false
-    c.ranges.message-type.fits
+    c.ranges.message_type.fits

@@ -13,4 +13,4 @@ bounds-m-i-7 c =
 pub returns : goal.returns
 returns c =
     let a = c.args in
-    stored a.m.now a.t3 a.i (omega arith)
+    stored a.m.now a.k a.i (omega arith)

@@ -4,7 +4,7 @@ use Rattle.aes.proofs.counter_mode.xor_part.Goals as goal
 
 pub loop-j-init : goal.loop-j-init
 loop-j-init c =
-    let a = c.args in (omega arith, omega arith, refl, over-begin a.m.now a.t4 a.i)
+    let a = c.args in (omega arith, omega arith, refl, over-begin a.m.now a.k a.i)
 
 pub loop-j-preserved : goal.loop-j-preserved
 loop-j-preserved c =
@@ -13,7 +13,7 @@ loop-j-preserved c =
       omega arith,
       omega arith,
       simp length-set (omega arith),
-      over-next a.m.now a.t4 a.i c.loop-j.m j c.loop-j.invariant.0 (omega arith) (omega arith) c.loop-j.invariant.3,
+      over-next a.m.now a.k a.i c.loop-j.m j c.loop-j.invariant.0 (omega arith) (omega arith) c.loop-j.invariant.3,
     )
 
 pub returns : goal.returns
@@ -21,5 +21,5 @@ returns c =
     let a = c.args in
     let e : c.loop-j.j - a.i ≡ a.end - a.i = omega arith in
     c.loop-j.invariant.3 ∙
-    ap (λ (n : ℕ). over a.m.now a.i (take n a.t4)) e ∙
-    sym (parts-of a.m.now a.t4 a.i (a.end - a.i) a.end (omega arith) (omega arith) (omega arith))
+    ap (λ (n : ℕ). over a.m.now a.i (take n a.k)) e ∙
+    sym (parts-of a.m.now a.k a.i (a.end - a.i) a.end (omega arith) (omega arith) (omega arith))

@@ -14,14 +14,17 @@ unfolding nea2_by
 returns c =
     let a = c.args in
     let m = a.m.now in
-    let k = a.ciphering-key in
-    let f : (List ℕ → List ℕ) = λ l. nea2_by k a.count a.bearer a.direction l in record { ciphered = ⊎_elim
+    let k = a.ciphering_key in
+    let f : (List ℕ → List ℕ) = λ l. nea2_by k a.count a.bearer a.direction l in record {
+      ciphered = ⊎_elim
           (λ w. w.7 ∙ behind 1 m _ f w.4.ensures)
-          (λ w. w.1 ∙ short f (λ l. nea2-length k a.count a.bearer a.direction l) m w.0.left) c.if-m-gt1.branch; code = c.nia2_with.ensures }
+          (λ w. w.1 ∙ short f (λ l. nea2-length k a.count a.bearer a.direction l) m w.0.left) c.if-m-gt1.branch;
+      code = c.nia2_with.ensures;
+    }
 
 pub shape_of-m : goal.shape_of-m
 shape_of-m c =
     let a = c.args in
-    let k = a.ciphering-key in
+    let k = a.ciphering_key in
     ap length (returns-2 c).0 ∙
     same_length (λ (l : List ℕ). nea2_by k a.count a.bearer a.direction l) (λ l. nea2-length k a.count a.bearer a.direction l) a.m.now

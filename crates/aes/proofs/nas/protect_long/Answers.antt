@@ -21,7 +21,7 @@ cmac_from-requires c =
     let start : take 8 c.first_counter-t.result ≡ c.head-h.result =
     ap (take 8) (c.first_counter-t.ensures ∙ ap (λ (l : List ℕ). l ++ replicate 8 0) (sym c.head-h.ensures)) ∙
     take_at c.head-h.result (replicate 8 0) 8 eight in
-    let all = ap₂ (λ (l : List ℕ) (k : ℕ). chain (cipher c.args.integrity-key.schedule) l (k / 16 - 2))
+    let all = ap₂ (λ (l : List ℕ) (k : ℕ). chain (cipher c.args.integrity_key.schedule) l (k / 16 - 2))
     (ap (λ (l : List ℕ). l ++ get_or m 0 0 ∷ zs) start ∙ first-behind c.head-h.result m zs some) part in
     let size : length zs ≡ length m - 1 = ap length c.cipher_and_chain-x.ensures.ciphered ∙ ctr-length (cipher w) (cipher-length w) c.first_counter-t.result (take (length m - 1) (drop 1 m)) ∙ part in
     let before : (length m - 1) / 16 - 2 ≤ (length c.head-h.result + length (put_mid 1 (length m - 1) m zs) - 1) / 16 = omega (arith, lent_length m zs some, size, eight) in
@@ -32,5 +32,8 @@ unfolding nia2_by
 returns c =
     let a = c.args in
     let m = a.m.now in
-    let w = a.w.now in record { ciphered = behind 1 m _ (λ (l : List ℕ). ctr_of (cipher w) (head a.count a.bearer a.direction ++ replicate 8 0) l)
-          (c.cipher_and_chain-x.ensures.ciphered ∙ ap (λ (l : List ℕ). ctr_of (cipher w) l (take (length m - 1) (drop 1 m))) c.first_counter-t.ensures); code = c.code_of_lem.ensures ∙ ap (take 4) c.cmac_from.ensures ∙ rw c.head-h.ensures }
+    let w = a.w.now in record {
+      ciphered = behind 1 m _ (λ (l : List ℕ). ctr_of (cipher w) (head a.count a.bearer a.direction ++ replicate 8 0) l)
+          (c.cipher_and_chain-x.ensures.ciphered ∙ ap (λ (l : List ℕ). ctr_of (cipher w) l (take (length m - 1) (drop 1 m))) c.first_counter-t.ensures);
+      code = c.code_of_lem.ensures ∙ ap (take 4) c.cmac_from.ensures ∙ rw c.head-h.ensures;
+    }

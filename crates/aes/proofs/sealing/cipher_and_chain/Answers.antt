@@ -27,13 +27,13 @@ run_both-y-requires c =
     let i = c.loop-i.i in
     let q = c.run_end-next.ensures in
     let e = c.counter_block-b.ensures in
-    let p = c.loop-i.invariant.3 a.p.now (from-none (cipher w) (cipher-length w) a.t4 a.p.now _ 32 c.ctr_to.ensures) in
-    let n : length c.loop-i.p ≡ length a.p.now = part_length (cipher w) (cipher-length w) a.t4 a.p.now _ i p in
+    let p = c.loop-i.invariant.3 a.p.now (from-none (cipher w) (cipher-length w) a.t a.p.now _ 32 c.ctr_to.ensures) in
+    let n : length c.loop-i.p ≡ length a.p.now = part_length (cipher w) (cipher-length w) a.t a.p.now _ i p in
     let z : length a.p.now / 16 * 16 % 16 ≡ 0 = omega arith in
-    let g : Shared w (counter a.t4 (i / 16)) c.shared-g.result = rw (← e) c.shared-g.ensures in
+    let g : Shared w (counter a.t (i / 16)) c.shared-g.result = rw (← e) c.shared-g.ensures in
     let m : i ≤ c.run_end-next.result = omega (arith, q.2 c.loop-i-test.true) in
     let k : c.run_end-next.result ≤ length c.loop-i.p = omega (arith, q.0, n) in
-    let f : c.run_end-next.result + get_or (counter a.t4 (i / 16)) 15 0 * 16 ≤ i + 4096 = rw (← e) q.1 in
+    let f : c.run_end-next.result + get_or (counter a.t (i / 16)) 15 0 * 16 ≤ i + 4096 = rw (← e) q.1 in
     (c.requires.0, g, c.loop-i.invariant.0, m, k, c.loop-i.invariant.2, q.3 c.loop-i.invariant.2 z, f)
 
 pub loop-i-smaller : goal.loop-i-smaller
@@ -57,8 +57,8 @@ pub ctr_to-requires-2 : goal.ctr_to-requires-2
 ctr_to-requires-2 c =
     let a = c.args in
     let w = a.w.now in
-    let p = c.loop-i.invariant.3 a.p.now (from-none (cipher w) (cipher-length w) a.t4 a.p.now _ 32 c.ctr_to.ensures) in
-    let n : length c.loop-i.p ≡ length a.p.now = part_length (cipher w) (cipher-length w) a.t4 a.p.now _ c.loop-i.i p in
+    let p = c.loop-i.invariant.3 a.p.now (from-none (cipher w) (cipher-length w) a.t a.p.now _ 32 c.ctr_to.ensures) in
+    let n : length c.loop-i.p ≡ length a.p.now = part_length (cipher w) (cipher-length w) a.t a.p.now _ c.loop-i.i p in
     let k : length a.p.now / 16 * 16 / 16 * 16 ≤ length c.loop-i.p = omega (arith, n) in
     let m : length c.loop-i.p ≤ length c.loop-i.p = omega arith in
     (c.requires.0, k, m)
@@ -67,7 +67,7 @@ pub state_at-requires : goal.state_at-requires
 state_at-requires c =
     let a = c.args in
     let w = a.w.now in
-    let t = a.t4 in
+    let t = a.t in
     let o = a.p.now in
     let z : c.loop-i.i ≡ length o / 16 * 16 / 16 * 16 = omega (arith, c.loop-i.invariant.1, c.loop-i-test.false) in
     let e = from-none (cipher w) (cipher-length w) t o _ 32 c.ctr_to.ensures in
@@ -81,7 +81,7 @@ pub returns : goal.returns
 returns c =
     let a = c.args in
     let w = a.w.now in
-    let t = a.t4 in
+    let t = a.t in
     let o = a.p.now in
     let z : c.loop-i.i ≡ length o / 16 * 16 / 16 * 16 = omega (arith, c.loop-i.invariant.1, c.loop-i-test.false) in
     let e = from-none (cipher w) (cipher-length w) t o _ 32 c.ctr_to.ensures in
@@ -109,7 +109,7 @@ returns c =
 pub shape_of-p : goal.shape_of-p
 shape_of-p c =
     let a = c.args in
-    ap length (returns c).0 ∙ ctr-length (cipher a.w.now) (cipher-length a.w.now) a.t4 a.p.now
+    ap length (returns c).0 ∙ ctr-length (cipher a.w.now) (cipher-length a.w.now) a.t a.p.now
 
 pub bounds-p-0 : goal.bounds-p-0
 bounds-p-0 c = omega (arith, long _ _ _ _ c.requires.1 c.ctr_to.ensures)

@@ -78,9 +78,12 @@ loop-i-preserved c =
 pub returns : goal.returns
 returns c =
     let a = c.args in
-    let z : c.loop-i.i ≡ a.end = omega arith in record { ciphered = λ k e.
+    let z : c.loop-i.i ≡ a.end = omega arith in record {
+      ciphered = λ k e.
           c.loop-i.invariant.6 a.t k c.well_formed.1.1.1.0.1.0.1 c.requires.1 (ap (λ (q : List ℕ). get_or q 15 0) c.counter_block-b.ensures) e ∙
-          ap (λ (j : ℕ). ctr_of (cipher a.w.now) a.t (take j k) ++ drop j k) z; chained = λ h n e. c.loop-i.invariant.7 h n e ∙ ap (λ (j : ℕ). entering (cipher a.v.now) (h ++ c.loop-i.p) (j / 16 - 2)) z }
+          ap (λ (j : ℕ). ctr_of (cipher a.w.now) a.t (take j k) ++ drop j k) z;
+      chained = λ h n e. c.loop-i.invariant.7 h n e ∙ ap (λ (j : ℕ). entering (cipher a.v.now) (h ++ c.loop-i.p) (j / 16 - 2)) z;
+    }
 
 pub shape_of-p : goal.shape_of-p
 shape_of-p c = c.loop-i.invariant.3

@@ -19,8 +19,7 @@ returns-then-not-may_stand c =
     laws.stop _ _ _ (omega arith) (omega arith) c.may_stand.result c.may_stand.ensures c.if-not-may_stand.true (search rules)
 
 pub loop-i-preserved : goal.loop-i-preserved
-loop-i-preserved c =
-    (
+loop-i-preserved c = (
   omega arith,
   laws.go _ _ _ (omega arith) (omega arith) c.may_stand.result c.may_stand.ensures c.if-not-may_stand.false (search rules),
 )

@@ -14,7 +14,7 @@ distance_to-far-requires c =
 pub slice_bounds-hand-end-in-Late : goal.slice_bounds-hand-end-in-Late
 slice_bounds-hand-end-in-Late c =
     let a = c.args in
-    let x = a.t1.core in
+    let x = a.self.core in
     let t = type_of a.message.now in
     let e = rw c.in-Late.is at c.read-choice.ensures.plain in
     sym (lent x t _ a.bearer a.direction a.message.now a.out.now _ e)
@@ -22,7 +22,7 @@ slice_bounds-hand-end-in-Late c =
 pub hand-answer-requires : goal.hand-answer-requires
 hand-answer-requires c =
     let a = c.args in
-    let x = a.t1.core in
+    let x = a.self.core in
     let t = type_of a.message.now in
     let e = rw c.in-Late.is at c.read-choice.ensures.plain in
     λ h g. omega (arith, lent x t _ a.bearer a.direction a.message.now a.out.now _ e, c.requires.4 h g)
@@ -38,7 +38,7 @@ distance_to-far-requires-in-Forward c =
 pub slice_bounds-hand-end-in-Forward-2 : goal.slice_bounds-hand-end-in-Forward-2
 slice_bounds-hand-end-in-Forward-2 c =
     let a = c.args in
-    let x = a.t1.core in
+    let x = a.self.core in
     let t = type_of a.message.now in
     let e = rw c.in-Forward.is at c.read-choice.ensures.plain in
     sym (lent x t _ a.bearer a.direction a.message.now a.out.now _ e)
@@ -46,7 +46,7 @@ slice_bounds-hand-end-in-Forward-2 c =
 pub hand-answer-requires-in-Forward : goal.hand-answer-requires-in-Forward
 hand-answer-requires-in-Forward c =
     let a = c.args in
-    let x = a.t1.core in
+    let x = a.self.core in
     let t = type_of a.message.now in
     let e = rw c.in-Forward.is at c.read-choice.ensures.plain in
     λ h g. omega (arith, lent x t _ a.bearer a.direction a.message.now a.out.now _ e, c.requires.4 h g)
@@ -69,7 +69,7 @@ pub returns-in-Late : goal.returns-in-Late
 unfolding opened plain_of
 returns-in-Late c =
     let a = c.args in
-    let x = a.t1.core in
+    let x = a.self.core in
     let t = type_of a.message.now in
     let e = rw c.in-Late.is at c.read-choice.ensures.plain in
     simp (sym c.read-choice.ensures.opening ∙ c.in-Late.is)
@@ -80,7 +80,7 @@ pub returns-in-Forward : goal.returns-in-Forward
 unfolding opened plain_of
 returns-in-Forward c =
     let a = c.args in
-    let x = a.t1.core in
+    let x = a.self.core in
     let t = type_of a.message.now in
     let e = rw c.in-Forward.is at c.read-choice.ensures.plain in
     simp (sym c.read-choice.ensures.opening ∙ c.in-Forward.is)

@@ -8,4 +8,4 @@ use Rattle.nas_5gs.proofs.Context.send.Goals as goal
 pub returns : goal.returns
 unfolding sent use_next
 returns c =
-    simp (c.used.ensures, c.put.ensures, envelope-length c.args.self.core c.args.header-type (next_at c.args.self c.args.p) c.args.bearer c.args.direction c.args.inner.now)
+    simp (c.used.ensures, c.put.ensures, envelope-length c.args.self.core c.args.header_type (next_at c.args.self c.args.p) c.args.bearer c.args.direction c.args.inner.now)

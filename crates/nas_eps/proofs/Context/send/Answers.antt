@@ -9,4 +9,4 @@ pub returns : goal.returns
 unfolding sent use_next
 returns c =
     let a = c.args in
-    simp (c.used.ensures, c.put.ensures, message-length a.t1.core a.header-type (next_at a.t1 a.direction) a.direction a.inner.now)
+    simp (c.used.ensures, c.put.ensures, message-length a.self.core a.header_type (next_at a.self a.direction) a.direction a.inner.now)

@@ -26,4 +26,4 @@ pub returns : goal.returns
 unfolding service_request_of use_next
 returns c =
     let a = c.args in
-    simp (c.used.ensures, c.put.ensures, sym c.request_refusal-n.ensures ∙ c.if-n-ne0.false, request-length a.t1.core a.identifier (next_at a.t1 0))
+    simp (c.used.ensures, c.put.ensures, sym c.request_refusal-n.ensures ∙ c.if-n-ne0.false, request-length a.self.core a.identifier (next_at a.self 0))

@@ -39,10 +39,10 @@ returns c =
     let a = c.args in
     let n = length a.inner.now in
     let ys = c.copy.new.dst in
-    let sent = payload a.core (ciphers a.header-type) a.count 0 a.direction a.inner.now in
+    let sent = payload a.core (ciphers a.header_type) a.count 0 a.direction a.inner.now in
     let made = protected a.core a.count 0 a.direction sent in
     let z : c.seal.new.body ≡ made =
     c.seal.ensures
     ∙ ap (λ (l : List ℕ). protected a.core a.count 0 a.direction (payload a.core c.is_ciphering-ciphered.result a.count 0 a.direction l)) (inside 1 6 (6 + n) n a.out.now ys refl refl c.requires.1 (many (goal.at.returns c).After-copy) ∙ c.copy.ensures)
     ∙ ap (λ (t : Bool). protected a.core a.count 0 a.direction (payload a.core t a.count 0 a.direction a.inner.now)) c.is_ciphering-ciphered.ensures in
-    sealed 1 6 (6 + n) n a.out.now ys refl refl c.requires.1 (many (goal.at.returns c).After-copy) ((a.header-type * 16 + 7) ∷ []) _ made refl z (omega (arith, protected-length a.core a.count 0 a.direction sent, payload-length a.core a.count 0 a.direction a.inner.now (ciphers a.header-type)))
+    sealed 1 6 (6 + n) n a.out.now ys refl refl c.requires.1 (many (goal.at.returns c).After-copy) ((a.header_type * 16 + 7) ∷ []) _ made refl z (omega (arith, protected-length a.core a.count 0 a.direction sent, payload-length a.core a.count 0 a.direction a.inner.now (ciphers a.header_type)))

@@ -1,12 +1,12 @@
 -- Ciphering under the words of a machine: what a loop over the words has done after n of them, and what the layers above rely on.
 -- Assumes nothing.
 use mathlib.Core.Path.{◌≡◌, refl, ap, ap₂, sym, ◌∙◌}
-use mathlib.Core.List.{List, [], ◌∷◌, ◌++◌, append-nil}
+use mathlib.Core.List.{List, append-nil}
 use Prim.Native.Nat.{ℕ, zero, suc, ◌+◌, ◌*◌, ◌/◌, ◌%◌, ◌<◌, ◌≤◌}
 use native.Mathlib.Omega.{arith}
 use native.Mathlib.Nat.{add-zero, zero-add, add-suc}
 use lib.Dec.{lit≤}
-use lib.ListN.{length, take, drop, get_or, drop_of_length-le}
+use lib.ListN.{length, take, get_or, drop_of_length-le}
 use lib.Seq.{take_all}
 use Rattle.aes.specs.Octets.{octets}
 use Rattle.aes.specs.Laws.{Octets}

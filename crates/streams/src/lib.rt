@@ -1,5 +1,6 @@
 // Words of a stream cipher as octets, and octets of a message under them.
 #![tactic(auto)]
+
 ghost use Rattle.std.specs.Prelude.{◌≡◌, ◌∷◌, [], ◌+◌, ◌*◌, ◌^◌, ◌≤◌, length};
 ghost use Rattle.aes.specs.Octets.{octets, number};
 ghost use Rattle.streams.specs.Covers.{covered};

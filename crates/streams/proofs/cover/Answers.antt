@@ -1,9 +1,7 @@
-use borrow.Author.Rules.{rules}
 use mathlib.Core.Path.{◌≡◌, refl}
-use Prim.Native.Nat.{◌≤◌, ◌-◌}
 use native.Mathlib.Omega.{arith}
 use native.Mathlib.Numerals.{add-one}
-use lib.ListN.{length, length-set}
+use lib.ListN.{length-set}
 use Rattle.streams.specs.Covers.{covered}
 use Rattle.streams.proofs.cover.Goals as goal
 

@@ -1,5 +1,4 @@
 use native.Mathlib.Nat.{div-one}
-use borrow.Author.Rules.{rules}
 use Rattle.streams.proofs.octets_of.Goals as goal
 
 pub returns : goal.returns

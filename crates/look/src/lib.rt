@@ -1,5 +1,6 @@
 // The look at the inner message: what document 01 takes for a known 5GS message, its header type and its direction.
 #![tactic(auto)]
+
 ghost use Rattle.std.specs.Prelude.{◌≡◌};
 ghost use Rattle.look.specs.Types.{way_of};
 ghost use Rattle.look.specs.Look.{is_mobility, is_session, is_of, way_in, not_known, alone, not_together, wrong_way, look_of};

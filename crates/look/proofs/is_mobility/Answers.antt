@@ -1,6 +1,5 @@
 use borrow.Author.Tests.{le-leb, lt-leb, eq-eqb, ne_eqb}
 use Rattle.look.specs.Look.{is_mobility}
-use borrow.Author.Rules.{rules}
 use Rattle.look.proofs.is_mobility.Goals as goal
 
 pub returns-then-octets-lt3 : goal.returns-then-octets-lt3

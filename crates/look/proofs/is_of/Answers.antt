@@ -2,7 +2,6 @@ use mathlib.Core.Path.{sym, ◌∙◌}
 use native.Mathlib.Omega.{arith}
 use Rattle.look.proofs.Long.{long}
 use Rattle.look.specs.Look.{is_of}
-use borrow.Author.Rules.{rules}
 use Rattle.look.proofs.is_of.Goals as goal
 
 pub bounds-octets-2 : goal.bounds-octets-2

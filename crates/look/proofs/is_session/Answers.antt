@@ -1,6 +1,5 @@
 use borrow.Author.Tests.{le-leb, lt-leb}
 use Rattle.look.specs.Look.{is_session}
-use borrow.Author.Rules.{rules}
 use Rattle.look.proofs.is_session.Goals as goal
 
 pub returns-then-octets-lt4 : goal.returns-then-octets-lt4

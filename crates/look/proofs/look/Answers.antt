@@ -1,6 +1,5 @@
 use mathlib.Core.Path.{sym, ◌∙◌}
 use Rattle.look.specs.Look.{look_of}
-use borrow.Author.Rules.{rules}
 use Rattle.look.proofs.look.Goals as goal
 
 pub returns-then-not_known : goal.returns-then-not_known

@@ -1,6 +1,5 @@
 use mathlib.Core.Path.{sym, ◌∙◌}
 use Rattle.look.specs.Look.{not_known}
-use borrow.Author.Rules.{rules}
 use Rattle.look.proofs.not_known.Goals as goal
 
 pub returns-in-Uplink : goal.returns-in-Uplink

@@ -1,6 +1,5 @@
 use mathlib.Core.Path.{sym, ◌∙◌}
 use Rattle.look.specs.Look.{not_together}
-use borrow.Author.Rules.{rules}
 use Rattle.look.proofs.not_together.Goals as goal
 
 pub returns-then-is_alone : goal.returns-then-is_alone

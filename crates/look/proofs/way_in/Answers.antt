@@ -2,7 +2,6 @@ use mathlib.Core.Path.{sym, ◌∙◌}
 use native.Mathlib.Omega.{arith}
 use Rattle.look.proofs.Long.{long}
 use Rattle.look.specs.Look.{way_in}
-use borrow.Author.Rules.{rules}
 use Rattle.look.proofs.way_in.Goals as goal
 
 pub bounds-octets-2 : goal.bounds-octets-2

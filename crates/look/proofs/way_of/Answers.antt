@@ -9,7 +9,6 @@ use Rattle.look.specs.declared.Way.{Way}
 use Rattle.look.specs.declared.Way.TheVariants.{Uplink, Downlink, Either, Unknown}
 use Rattle.look.specs.Types.{one_of, way_of}
 use Rattle.look.proofs.Among.{is, it, Among, none, all_of, among, below, every}
-use Rattle.look.proofs.way_of.Goals.{In_default-1}
 use Rattle.look.proofs.way_of.Goals as goal
 
 -- Each arm of the match answers what the lists of types say at every number of the arm.
@@ -35,87 +34,86 @@ abbrev right : ℕ → ℕ → Way → ℕ → Bool
 right lo hi w t =
     ltb t lo || (leb hi t || (one_of t k1 || (one_of t k2 || (one_of t k3 || (one_of t k4 || is w (way_of t))))))
 
-range : (lo hi : ℕ) (w : Way) (c : In_default-1) → below (right lo hi w) 256 ≡ true
-    → lo ≤ c.args.message_type → c.args.message_type < hi → w ≡ way_of c.args.message_type
-range lo hi w c all g h =
-    let t = c.args.message_type in
-    let m = c.in-65.rest in
+-- in no arm of single numbers, as the arms behind them know it
+abbrev Rest : ℕ → Type 0
+Rest t = (((Unit {0} × (Among t k1 → ⊥)) × (Among t k2 → ⊥)) × (Among t k3 → ⊥)) × (Among t k4 → ⊥)
+
+range : (lo hi : ℕ) (w : Way) (t : ℕ) → Rest t → below (right lo hi w) 256 ≡ true → t < 256 → lo ≤ t → t < hi → w ≡ way_of t
+range lo hi w t m all b g h =
     it w (way_of t)
-    (simp (le-ltb t lo g, lt-leb hi t h, none t k1 m.0.0.0.1, none t k2 m.0.0.1, none t k3 m.0.1, none t k4 m.1) at (every (right lo hi w) 256 t all c.ranges.message_type.fits))
+    (simp (le-ltb t lo g, lt-leb hi t h, none t k1 m.0.0.0.1, none t k2 m.0.0.1, none t k3 m.0.1, none t k4 m.1) at (every (right lo hi w) 256 t all b))
 
 pub returns-in-65 : goal.returns-in-65
 unfolding way_of
 returns-in-65 c =
-    arm Uplink k1 _ refl c.in-65.keys1
+    arm Uplink k1 _ refl c.in-65.is
 
 pub returns-in-105 : goal.returns-in-105
 unfolding way_of
 returns-in-105 c =
-    arm Uplink k2 _ refl c.in-65.keys2
+    arm Uplink k2 _ refl c.in-105.is
 
 pub returns-in-66 : goal.returns-in-66
 unfolding way_of
 returns-in-66 c =
-    arm Downlink k3 _ refl c.in-65.keys3
+    arm Downlink k3 _ refl c.in-66.is
 
 pub returns-in-100 : goal.returns-in-100
 unfolding way_of
 returns-in-100 c =
-    arm Either k4 _ refl c.in-65.keys4
+    arm Either k4 _ refl c.in-100.is
 
 pub returns-in-70-to-71 : goal.returns-in-70-to-71
 unfolding way_of
 returns-in-70-to-71 c =
-    range 65 72 Downlink c refl c.if-message_type-lt65.false c.if-message_type-lt72.true
+    range 65 72 Downlink c.args.message_type c.in-70-to-71.in_default-own.rest refl c.ranges.message_type.fits (omega arith) (omega arith)
 
 pub returns-in-77-to-78 : goal.returns-in-77-to-78
 unfolding way_of
 returns-in-77-to-78 c =
-    range 76 79 Downlink c refl c.if-message_type-lt76.false c.if-message_type-lt79.true
+    range 76 79 Downlink c.args.message_type c.in-77-to-78.in_default-own.rest refl c.ranges.message_type.fits (omega arith) (omega arith)
 
 pub returns-in-90-to-91 : goal.returns-in-90-to-91
 unfolding way_of
 returns-in-90-to-91 c =
-    range 84 92 Downlink c refl c.if-message_type-lt84.false
-    c.if-message_type-lt92.true
+    range 84 92 Downlink c.args.message_type c.in-90-to-91.in_default-own.rest refl c.ranges.message_type.fits (omega arith) (omega arith)
 
 pub returns-in-94-to-95 : goal.returns-in-94-to-95
 unfolding way_of
 returns-in-94-to-95 c =
-    range 92 96 Uplink c refl c.if-message_type-lt92.false c.if-message_type-lt96.true
+    range 92 96 Uplink c.args.message_type c.in-94-to-95.in_default-own.rest refl c.ranges.message_type.fits (omega arith) (omega arith)
 
 pub returns-in-102-to-103 : goal.returns-in-102-to-103
 unfolding way_of
 returns-in-102-to-103 c =
-    range 100 104 Uplink c refl c.if-message_type-lt100.false c.if-message_type-lt104.true
+    range 100 104 Uplink c.args.message_type c.in-102-to-103.in_default-own.rest refl c.ranges.message_type.fits (omega arith) (omega arith)
 
 pub returns-in-106-to-108 : goal.returns-in-106-to-108
 unfolding way_of
 returns-in-106-to-108 c =
-    range 104 109 Downlink c refl c.if-message_type-lt104.false c.if-message_type-lt109.true
+    range 104 109 Downlink c.args.message_type c.in-106-to-108.in_default-own.rest refl c.ranges.message_type.fits (omega arith) (omega arith)
 
 pub returns-in_default : goal.returns-in_default
 unfolding way_of
 returns-in_default c =
-    range 0 65 Unknown c refl (omega arith) c.if-message_type-lt65.true
+    range 0 65 Unknown c.args.message_type c.in_default.in_default-own.rest refl c.ranges.message_type.fits (omega arith) (omega arith)
 
 pub returns-in_default-2 : goal.returns-in_default-2
 unfolding way_of
 returns-in_default-2 c =
-    range 72 76 Unknown c refl c.if-message_type-lt72.false c.if-message_type-lt76.true
+    range 72 76 Unknown c.args.message_type c.in_default.in_default-own.rest refl c.ranges.message_type.fits (omega arith) (omega arith)
 
 pub returns-in_default-3 : goal.returns-in_default-3
 unfolding way_of
 returns-in_default-3 c =
-    range 79 84 Unknown c refl c.if-message_type-lt79.false c.if-message_type-lt84.true
+    range 79 84 Unknown c.args.message_type c.in_default.in_default-own.rest refl c.ranges.message_type.fits (omega arith) (omega arith)
 
 pub returns-in_default-4 : goal.returns-in_default-4
 unfolding way_of
 returns-in_default-4 c =
-    range 96 100 Unknown c refl c.if-message_type-lt96.false c.if-message_type-lt100.true
+    range 96 100 Unknown c.args.message_type c.in_default.in_default-own.rest refl c.ranges.message_type.fits (omega arith) (omega arith)
 
 pub returns-in_default-5 : goal.returns-in_default-5
 unfolding way_of
 returns-in_default-5 c =
-    range 109 256 Unknown c refl c.if-message_type-lt109.false
-    c.ranges.message_type.fits
+    range 109 256 Unknown c.args.message_type c.in_default.in_default-own.rest refl c.ranges.message_type.fits (omega arith) (omega arith)

@@ -1,6 +1,5 @@
 use mathlib.Core.Path.{sym, ◌∙◌}
 use Rattle.look.specs.Look.{wrong_way}
-use borrow.Author.Rules.{rules}
 use Rattle.look.proofs.wrong_way.Goals as goal
 
 pub returns-in-Uplink : goal.returns-in-Uplink

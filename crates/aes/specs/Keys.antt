@@ -1,6 +1,6 @@
 -- A key with what it expands to, made once: the 44 words of FIPS 197 5.2 and K1 and K2 of SP 800-38B 6.1; and 128-NEA2 and 128-NIA2 by what is kept.
 -- Assumes nothing.
-use Rattle.std.specs.Prelude.{◌≡◌, ℕ, List, [], ◌∷◌, ◌++◌, take, replicate}
+use Rattle.std.specs.Prelude.{◌≡◌, ℕ, List, ◌++◌, take, replicate}
 use Rattle.aes.specs.Cipher.{cipher, expand_key}
 use Rattle.aes.specs.Counter.{ctr_of}
 use Rattle.aes.specs.Cmac.{subkey1, subkey2, cmac_by}

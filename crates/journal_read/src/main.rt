@@ -1,11 +1,13 @@
 // Reads a journal of any length from standard input, performs its calls on one context, and prints the line of each; of octets that are no record it prints how
 // many were skipped.
 #![tactic(auto)]
+
 ghost use Rattle.std.specs.Prelude.{◌+◌, ◌≤◌, length};
 
 use hex_parse::Line;
 use journal::Step;
 use nas_5gs::Context;
+use std::io::{Read, Result, Stdin};
 
 // What is kept from step to step: the context, how many octets were skipped so far, the place after what is printed, and where in the window those octets lie
 // that were read and not yet passed.
@@ -53,16 +55,10 @@ fn slide(window: &mut [u8], start: usize, end: usize) -> usize
     n
 }
 
-fn read_behind(window: &mut [u8], end: usize) -> isize
+fn read_behind(stdin: &mut Stdin, window: &mut [u8], end: usize) -> Result<usize>
     requires { end ≤ length window.old }
 {
-    libc::read(0, &mut window[end..])
-}
-
-fn count_behind(got: isize, window: &[u8], end: usize) -> usize
-    requires { end ≤ length window.now }
-{
-    io::count(got, &window[end..])
+    stdin.read(&mut window[end..])
 }
 
 // A number of at most 20 digits, in decimal.
@@ -162,25 +158,27 @@ impl Reader {
     }
 
     // What was read, behind `end` octets of the window. A read that fails is not the end of the input.
-    fn with_read(mut self, got: isize, window: &[u8], end: usize) -> Reader
+    fn with_read(mut self, got: Result<usize>, window: &[u8], end: usize) -> Reader
         requires { end ≤ length window.now }
     {
-        if got < 0 {
-            io::write_all(2, b"journal_read: a read failed\n");
-            self.is_last = true;
-            return self;
-        }
-        if got == 0 {
+        let n = match got {
+            Ok(n) => n,
+            Err(_error) => {
+                io::write_all(2, b"journal_read: a read failed\n");
+                self.is_last = true;
+                return self;
+            }
+        };
+        if n == 0 {
             self.is_end = true;
             return self;
         }
-        let n = count_behind(got, window, end);
         self.end = passed(end, n, window.len());
         self
     }
 
     // Reads once more. What lies at the window's end goes to its front first.
-    fn filled(mut self, window: &mut [u8], end: usize) -> Reader
+    fn filled(mut self, stdin: &mut Stdin, window: &mut [u8], end: usize) -> Reader
         requires { end ≤ length window.old }
     {
         self.end = end;
@@ -188,15 +186,16 @@ impl Reader {
             let kept = slide(window, self.start, end);
             self.start = 0;
             self.end = kept;
-            let got = read_behind(window, kept);
+            let got = read_behind(stdin, window, kept);
             return self.with_read(got, window, kept);
         }
-        let got = read_behind(window, end);
+        let got = read_behind(stdin, window, end);
         self.with_read(got, window, end)
     }
 
     fn stepped(
         self,
+        stdin: &mut Stdin,
         window: &mut [u8],
         lent: &mut [u8],
         second: &mut [u8],
@@ -217,7 +216,7 @@ impl Reader {
             Step::Pass => self.skipping(),
             Step::More => {
                 let flushed = self.flushed(print);
-                flushed.filled(window, end)
+                flushed.filled(stdin, window, end)
             }
             Step::End => self.ended(print),
         }
@@ -226,6 +225,7 @@ impl Reader {
 
 // A loop has to end, and nothing says that the input does: so it counts its steps down, from a number that no run uses up.
 fn run(
+    stdin: &mut Stdin,
     reader: Reader,
     window: &mut [u8],
     lent: &mut [u8],
@@ -235,7 +235,7 @@ fn run(
     let mut state = reader;
     let mut steps = u64::MAX;
     while steps > 0 {
-        let next = state.stepped(window, lent, second, print);
+        let next = state.stepped(stdin, window, lent, second, print);
         state = next;
         if state.is_last {
             return;
@@ -244,12 +244,14 @@ fn run(
     }
 }
 
-fn main() {
+fn main(rt: HostRuntime) {
+    let mut stdin = rt.stdin();
     let mut window = io::large_buffer();
     let mut lent = io::large_buffer();
     let mut second = io::large_buffer();
     let mut print = io::large_buffer();
     run(
+        &mut stdin,
         Reader::new(),
         &mut window,
         &mut lent,

@@ -1,10 +1,12 @@
 // Reads hex lines from standard input and writes the journal of those that are calls on slot 0 to standard output. It makes no call and keeps no context.
 #![tactic(auto)]
+
 ghost use Rattle.std.specs.Prelude.{◌+◌, ◌≤◌, length};
 
 use hex_input::Input;
 use hex_parse::Line;
 use journal::Written;
+use std::io::{Read, Stdin};
 
 // What is kept from line to line: the line that is being read, how many were left out, and the place after what is written.
 #[derive(Clone, Copy)]
@@ -173,6 +175,7 @@ impl Session {
 
 // Reads once and writes the records of the lines that came, and says whether to go on. A read that fails is not the end of the input.
 fn read_some(
+    stdin: &mut Stdin,
     session: Session,
     input: &mut [u8],
     text: &mut [u8],
@@ -180,15 +183,23 @@ fn read_some(
     spare: &mut [u8],
     out: &mut [u8; 65536],
 ) -> Turn {
-    let got = libc::read(0, input);
-    if got <= 0 {
+    let n = match stdin.read(input) {
+        Ok(n) => n,
+        Err(_error) => {
+            return Turn {
+                session,
+                is_last: true,
+                is_error: true,
+            };
+        }
+    };
+    if n == 0 {
         return Turn {
             session,
             is_last: true,
-            is_error: got < 0,
+            is_error: false,
         };
     }
-    let n = io::count(got, input);
     let taken = session.taken(hex_lines::front(input, n), text, octets, spare, out);
     Turn {
         session: taken.flushed(out),
@@ -216,6 +227,7 @@ fn finish(turn: Turn, text: &[u8], octets: &[u8], spare: &mut [u8], out: &mut [u
 
 // A loop has to end, and nothing says that the input does: so it counts its turns down, from a number that no run uses up.
 fn run(
+    stdin: &mut Stdin,
     session: Session,
     input: &mut [u8],
     text: &mut [u8],
@@ -231,7 +243,7 @@ fn run(
     let mut turns = u64::MAX;
     while turns > 0 {
         let state = turn.session;
-        let next = read_some(state, input, text, octets, spare, out);
+        let next = read_some(stdin, state, input, text, octets, spare, out);
         turn = next;
         if turn.is_last {
             return turn;
@@ -241,13 +253,15 @@ fn run(
     turn
 }
 
-fn main() {
+fn main(rt: HostRuntime) {
+    let mut stdin = rt.stdin();
     let mut input = io::large_buffer();
     let mut text = io::buffer();
     let mut octets = io::large_buffer();
     let mut spare = io::large_buffer();
     let mut out = io::large_buffer();
     let turn = run(
+        &mut stdin,
         Session::new(),
         &mut input,
         &mut text,

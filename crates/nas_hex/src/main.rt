@@ -1,7 +1,9 @@
 // Reads hex lines from standard input, performs each on one of eight 5GS or eight EPS contexts, and prints one line for each.
 #![tactic(auto)]
+
 use hex_input::Input;
 use hex_parse::{Call, Line};
+use std::io::{Read, Stdin};
 
 // What is kept from line to line: the slots, the line that is being read, and the place after what is printed.
 #[derive(Clone, Copy)]
@@ -144,6 +146,7 @@ impl Session {
 
 // Reads once and answers the lines that came, and says whether to go on. A read that fails is not the end of the input.
 fn read_some(
+    stdin: &mut Stdin,
     session: Session,
     input: &mut [u8],
     text: &mut [u8],
@@ -152,15 +155,23 @@ fn read_some(
     second: &mut [u8],
     print: &mut [u8; 65536],
 ) -> Turn {
-    let got = libc::read(0, input);
-    if got <= 0 {
+    let n = match stdin.read(input) {
+        Ok(n) => n,
+        Err(_error) => {
+            return Turn {
+                session,
+                is_last: true,
+                is_error: true,
+            };
+        }
+    };
+    if n == 0 {
         return Turn {
             session,
             is_last: true,
-            is_error: got < 0,
+            is_error: false,
         };
     }
-    let n = io::count(got, input);
     let taken = session.taken(
         hex_lines::front(input, n),
         text,
@@ -198,6 +209,7 @@ fn finish(
 
 // A loop has to end, and nothing says that the input does: so it counts its turns down, from a number that no run uses up.
 fn run(
+    stdin: &mut Stdin,
     session: Session,
     input: &mut [u8],
     text: &mut [u8],
@@ -214,7 +226,7 @@ fn run(
     let mut turns = u64::MAX;
     while turns > 0 {
         let state = turn.session;
-        let next = read_some(state, input, text, octets, lent, second, print);
+        let next = read_some(stdin, state, input, text, octets, lent, second, print);
         turn = next;
         if turn.is_last {
             return turn;
@@ -224,7 +236,8 @@ fn run(
     turn
 }
 
-fn main() {
+fn main(rt: HostRuntime) {
+    let mut stdin = rt.stdin();
     let mut input = io::large_buffer();
     let mut text = io::buffer();
     let mut octets = io::large_buffer();
@@ -232,6 +245,7 @@ fn main() {
     let mut second = io::large_buffer();
     let mut print = io::large_buffer();
     let turn = run(
+        &mut stdin,
         Session::new(),
         &mut input,
         &mut text,

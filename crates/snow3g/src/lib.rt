@@ -1,5 +1,6 @@
 // SNOW 3G (TS 35.216), UEA2 and UIA2 (TS 35.215): 128-NEA1 and 128-NIA1 (TS 33.501 Annex D).
 #![tactic(auto)]
+
 mod boxes;
 mod ciphering;
 mod integrity;

@@ -1,5 +1,6 @@
 // ZUC (TS 35.222), 128-EEA3 and 128-EIA3 (TS 35.221): 128-NEA3 and 128-NIA3 (TS 33.501 Annex D).
 #![tactic(auto)]
+
 mod ciphering;
 mod integrity;
 mod keystream;

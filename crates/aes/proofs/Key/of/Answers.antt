@@ -1,5 +1,5 @@
-use Rattle.std.proofs.Common.{◌≡◌, ap, ◌∙◌, rules}
-use Rattle.aes.specs.Cipher.{cipher, expand_key}
+use Rattle.std.proofs.Common.{ap, ◌∙◌}
+use Rattle.aes.specs.Cipher.{cipher}
 use Rattle.aes.specs.Cmac.{double, subkey1, subkey2}
 use Rattle.aes.specs.Keys.{key_of}
 use Rattle.aes.proofs.Key.of.Goals as goal

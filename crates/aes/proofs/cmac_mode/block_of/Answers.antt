@@ -1,4 +1,4 @@
-use Rattle.std.proofs.Common.{div-one, rules}
+use Rattle.std.proofs.Common.{div-one}
 use Rattle.aes.proofs.cmac_mode.block_of.Goals as goal
 
 pub returns : goal.returns

@@ -1,4 +1,4 @@
-use Rattle.std.proofs.Common.{◌≡◌, ◌+◌, ◌-◌, ◌*◌, [], ◌∷◌, ◌++◌, length, ap, ◌∙◌, arith, length-append, rules}
+use Rattle.std.proofs.Common.{◌≡◌, ◌+◌, ◌-◌, ◌*◌, [], ◌∷◌, ◌++◌, length, ap, ◌∙◌, arith, length-append}
 use Rattle.aes.specs.Cipher.{to_state}
 use Rattle.aes.proofs.Mac.{in-message, inner_block, end-block}
 use Rattle.aes.proofs.cmac_mode.chain_state.Goals as goal

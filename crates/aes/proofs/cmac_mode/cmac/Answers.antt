@@ -1,5 +1,4 @@
 use Rattle.aes.specs.Cmac.{subkey2, cmac_of}
-use Rattle.std.proofs.Common.{rules}
 use Rattle.aes.proofs.cmac_mode.cmac.Goals as goal
 
 pub returns : goal.returns

@@ -1,9 +1,8 @@
-use Rattle.std.proofs.Common.{◌≡◌, ℕ, ◌+◌, ◌-◌, ◌≤◌, List, ◌++◌, length, sym, refl, ap, ◌∙◌, ap₂, arith, length-append, rules}
+use Rattle.std.proofs.Common.{◌≡◌, ℕ, ◌+◌, List, ◌++◌, length, sym, refl, ap, ◌∙◌, ap₂, arith, length-append}
 use Rattle.aes.specs.Cipher.{from_state, cipher}
 use Rattle.aes.specs.Octets.{xor, octets}
 use Rattle.aes.specs.Parts.{chain_block}
-use Rattle.aes.specs.Laws.{Octets}
-use Rattle.aes.proofs.Mac.{made, made_some, made_all, made_more, block-length, next-state}
+use Rattle.aes.proofs.Mac.{made_some, made_all, made_more, block-length, next-state}
 use Rattle.aes.proofs.Octets.{owned-octets, halves-back}
 use Rattle.aes.proofs.cmac_mode.cmac_from.Goals as goal
 

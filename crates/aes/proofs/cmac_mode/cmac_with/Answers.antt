@@ -1,4 +1,4 @@
-use Rattle.std.proofs.Common.{refl, arith, rules}
+use Rattle.std.proofs.Common.{refl, arith}
 use Rattle.aes.specs.Cipher.{from_state}
 use Rattle.aes.specs.Cmac.{chain}
 use Rattle.aes.proofs.cmac_mode.cmac_with.Goals as goal

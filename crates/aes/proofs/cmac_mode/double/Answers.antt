@@ -1,4 +1,4 @@
-use Rattle.std.proofs.Common.{rules, le-ltb, lt-ltb}
+use Rattle.std.proofs.Common.{le-ltb, lt-ltb}
 use Rattle.aes.specs.Cmac.{double}
 use Rattle.aes.proofs.cmac_mode.double.Goals as goal
 

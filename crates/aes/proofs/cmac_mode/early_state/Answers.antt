@@ -1,4 +1,4 @@
-use Rattle.std.proofs.Common.{◌≡◌, [], ◌∷◌, ap, ◌∙◌, arith, rules}
+use Rattle.std.proofs.Common.{◌≡◌, [], ◌∷◌, ap, ◌∙◌, arith}
 use Rattle.aes.specs.Cipher.{to_state}
 use Rattle.aes.proofs.Mac.{in_halves}
 use Rattle.aes.proofs.cmac_mode.early_state.Goals as goal

@@ -1,4 +1,4 @@
-use Rattle.std.proofs.Common.{[], ◌∷◌, add-zero, arith, rules}
+use Rattle.std.proofs.Common.{[], ◌∷◌, add-zero, arith}
 use Rattle.aes.proofs.cmac_mode.gathered_block.Goals as goal
 
 pub overflow_add-k-14 : goal.overflow_add-k-14

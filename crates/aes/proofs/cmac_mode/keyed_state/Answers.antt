@@ -1,5 +1,4 @@
 use Rattle.aes_block.proofs.Rounds.{back}
-use Rattle.std.proofs.Common.{rules}
 use Rattle.aes.proofs.cmac_mode.keyed_state.Goals as goal
 
 pub returns-then-whole : goal.returns-then-whole

@@ -1,4 +1,4 @@
-use Rattle.std.proofs.Common.{◌-◌, [], ◌∷◌, length, ◌∙◌, arith, rules}
+use Rattle.std.proofs.Common.{◌-◌, [], ◌∷◌, length, ◌∙◌, arith}
 use Rattle.aes.proofs.Mac.{behind-head}
 use Rattle.aes.proofs.cmac_mode.last_block.Goals as goal
 

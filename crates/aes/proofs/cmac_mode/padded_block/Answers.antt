@@ -1,5 +1,5 @@
-use Rattle.std.proofs.Common.{◌≡◌, ◌-◌, ◌≤◌, length, drop, refl, arith, rules}
-use Rattle.aes.proofs.Mac.{filled, fill, padded-end, whole-end}
+use Rattle.std.proofs.Common.{◌≡◌, ◌-◌, length, refl, arith}
+use Rattle.aes.proofs.Mac.{fill, padded-end, whole-end}
 use Rattle.aes.proofs.cmac_mode.padded_block.Goals as goal
 
 pub loop-j-init : goal.loop-j-init

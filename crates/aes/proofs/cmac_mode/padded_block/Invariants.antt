@@ -1,5 +1,5 @@
-use Rattle.std.proofs.Common.{◌≡◌, ◌-◌, ◌≤◌, length, drop, refl, arith, rules}
-use Rattle.aes.proofs.Mac.{filled, fill, padded-end, whole-end}
+use Rattle.std.proofs.Common.{◌≡◌, ◌-◌, ◌≤◌, drop}
+use Rattle.aes.proofs.Mac.{filled}
 use Rattle.aes.proofs.cmac_mode.padded_block.Given as goal
 
 abbrev pub invariant-loop-j : goal.invariant-loop-j

@@ -1,4 +1,4 @@
-use Rattle.std.proofs.Common.{◌≡◌, [], ◌∷◌, length, get_or, arith, rules}
+use Rattle.std.proofs.Common.{◌≡◌, [], ◌∷◌, length, get_or, arith}
 use lib.ListN.{get_or-eq_default}
 use Rattle.aes.specs.Cmac.{shift_left}
 use Rattle.aes.proofs.cmac_mode.shift_left.Goals as goal

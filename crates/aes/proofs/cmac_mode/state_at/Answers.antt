@@ -1,4 +1,4 @@
-use Rattle.std.proofs.Common.{add-zero, rules}
+use Rattle.std.proofs.Common.{add-zero}
 use Rattle.aes.specs.Cipher.{to_state}
 use Rattle.aes.proofs.cmac_mode.state_at.Goals as goal
 

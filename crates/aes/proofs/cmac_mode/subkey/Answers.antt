@@ -1,7 +1,6 @@
 use Rattle.aes.specs.Cipher.{cipher}
 use Rattle.aes.specs.Cmac.{subkey1}
 use Rattle.aes.proofs.Mac.{of-zeros}
-use Rattle.std.proofs.Common.{rules}
 use Rattle.aes.proofs.cmac_mode.subkey.Goals as goal
 
 pub returns : goal.returns

@@ -1,5 +1,4 @@
 use Rattle.aes_block.proofs.Lists.{xor-places}
-use Rattle.std.proofs.Common.{rules}
 use Rattle.aes.proofs.cmac_mode.xor_block.Goals as goal
 
 pub returns : goal.returns

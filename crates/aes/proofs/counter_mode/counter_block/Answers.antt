@@ -1,4 +1,4 @@
-use Rattle.std.proofs.Common.{ℕ, List, drop, ap, rules}
+use Rattle.std.proofs.Common.{ℕ, List, drop, ap}
 use Rattle.aes.specs.Octets.{number}
 use Rattle.aes.specs.Counter.{counter}
 use Rattle.aes_block.proofs.Lists.{itself}
@@ -7,4 +7,4 @@ use Rattle.aes.proofs.counter_mode.counter_block.Goals as goal
 pub returns : goal.returns
 unfolding counter
 returns c =
-    rw (c.numbered.ensures, c.wrapping_add_u64.ensures, c.low64-base.ensures, ap (λ (l : List ℕ). number (drop 8 l)) (itself 16 c.args.t c.well_formed.0.1.0.1))
+    rw (c.numbered.ensures, c.wrapping_add_u64.ensures.value, c.low64-base.ensures, ap (λ (l : List ℕ). number (drop 8 l)) (itself 16 c.args.t c.well_formed.0.1.0.1))

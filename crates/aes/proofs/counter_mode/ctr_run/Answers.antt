@@ -1,10 +1,10 @@
-use Rattle.std.proofs.Common.{◌≡◌, ℕ, ◌+◌, ◌-◌, ◌*◌, ◌/◌, ◌%◌, ◌<◌, ◌≤◌, List, length, get_or, sym, refl, ap, ◌∙◌, ⊎_elim, arith, rules}
+use Rattle.std.proofs.Common.{◌≡◌, ℕ, ◌+◌, ◌-◌, ◌*◌, ◌/◌, ◌%◌, ◌<◌, ◌≤◌, List, length, get_or, sym, refl, ap, ◌∙◌, arith}
 use Rattle.aes.specs.Cipher.{cipher}
 use Rattle.aes.specs.Counter.{counter}
-use Rattle.aes_block.specs.Mix.{Shared}
 use Rattle.aes_block.proofs.Lengths.{cipher-length}
 use Rattle.aes.proofs.Stream.{ciphered, as-ctr}
 use Rattle.aes.proofs.Runs.{run-two, both}
+use Rattle.aes.proofs.counter_mode.ctr_run.Goals.{then-end-i-ge32, else-end-i-ge32}
 use Rattle.aes.proofs.counter_mode.ctr_run.Goals as goal
 
 pub loop-i-init : goal.loop-i-init
@@ -29,7 +29,7 @@ xor_rest-requires c =
 
 pub loop-i-smaller : goal.loop-i-smaller
 loop-i-smaller c =
-    ⊎_elim (λ w. omega arith) (λ w. omega arith) c.if-end-i-ge32.branch
+    elim c.if-end-i-ge32.branch [ then-end-i-ge32 w ↦ omega arith | else-end-i-ge32 w ↦ omega arith ]
 
 pub loop-i-preserved : goal.loop-i-preserved
 loop-i-preserved c =
@@ -43,31 +43,33 @@ loop-i-preserved c =
     let at = c.loop-i.invariant.3 inside in
     let last : get_or c.counter_block-b.result 15 0 ≡ get_or (counter a.t a.n) 15 0 =
     ap (λ (z : List ℕ). get_or z 15 0) c.counter_block-b.ensures in (
-      ⊎_elim (λ w. omega arith) (λ w. omega arith) arms.branch,
-      ⊎_elim (λ w. omega arith) (λ w. omega arith) arms.branch,
-      ⊎_elim (λ w. ap length w.11 ∙ omega arith) (λ w. ap length w.5 ∙ omega arith) arms.branch,
+      elim arms.branch [ then-end-i-ge32 w ↦ omega arith | else-end-i-ge32 w ↦ omega arith ],
+      elim arms.branch [ then-end-i-ge32 w ↦ omega arith | else-end-i-ge32 w ↦ omega arith ],
+      elim arms.branch [ then-end-i-ge32 w ↦ ap length w.m-is ∙ omega arith | else-end-i-ge32 w ↦ ap length w.m-is ∙ omega arith ],
       λ h.
-          ⊎_elim
-          (λ w. (omega (arith, h, at.0), omega (arith, h, at.0, at.1, last)))
-          (λ w. absurd (omega (arith, h))) arms.branch,
+          elim arms.branch [
+            | then-end-i-ge32 w ↦ (omega (arith, h, at.0), omega (arith, h, at.0, at.1, last))
+            | else-end-i-ge32 w ↦ absurd (omega (arith, h))
+          ],
       λ t u h g e f.
           let room : a.end + get_or (counter t a.n) 15 0 * 16 ≤ a.n * 16 + 4096 = omega (arith, e, last) in
           let place : c.loop-i.o + a.n ≡ get_or (counter t a.n) 15 0 + i / 16 = omega (arith, e, at.1) in
-          let turn : c.wrapping_add_u8.result ≡ (c.loop-i.o + 1) % 256 = omega (arith, c.wrapping_add_u8.ensures) in
+          let turn : c.wrapping_add_u8.result ≡ (c.loop-i.o + 1) % 256 = omega (arith, c.wrapping_add_u8.ensures.value) in
           let part =
           run-two v t u m a.g c.second_state-p.result c.second_state-q.result s a.n c.loop-i.o
           c.wrapping_add_u8.result i a.end h g room c.loop-i.invariant.0 at.0 place turn inside
           c.second_state-p.ensures c.second_state-q.ensures c.two_states-s.ensures (c.loop-i.invariant.4 t u h g e f) in
-          ⊎_elim
-          (λ w.
-          w.11 ∙
-          part 32 (i + 32) w.8.last.0 refl (omega arith) (omega arith) (omega arith)
-          (both m w.3.last.0 w.8.last.0 s _ _ i (omega arith) w.2.ensures w.7.ensures w.3.ensures w.8.ensures) ∙
-          ap (λ (z : ℕ). ciphered (cipher v) (cipher-length v) t u z) (sym w.12))
-          (λ w.
-          w.5 ∙
-          part (a.end - i) a.end w.2.last.0 (omega arith) (omega arith) (omega arith) (omega arith) w.2.ensures ∙
-          ap (λ (z : ℕ). ciphered (cipher v) (cipher-length v) t u z) (sym w.6)) arms.branch,
+          elim arms.branch [
+            | then-end-i-ge32 w ↦
+                w.m-is ∙
+                part 32 (i + 32) w.xor_state-then-end-i-ge32.new.m refl (omega arith) (omega arith) (omega arith)
+                (both m w.xor_state.new.m w.xor_state-then-end-i-ge32.new.m s _ _ i (omega arith) w.left.ensures w.right.ensures w.xor_state.ensures w.xor_state-then-end-i-ge32.ensures) ∙
+                ap (λ (z : ℕ). ciphered (cipher v) (cipher-length v) t u z) (sym w.i-is)
+            | else-end-i-ge32 w ↦
+                w.m-is ∙
+                part (a.end - i) a.end w.xor_rest.new.m (omega arith) (omega arith) (omega arith) (omega arith) w.xor_rest.ensures ∙
+                ap (λ (z : ℕ). ciphered (cipher v) (cipher-length v) t u z) (sym w.i-is)
+          ],
     )
 
 pub returns : goal.returns

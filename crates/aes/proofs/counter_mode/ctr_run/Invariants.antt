@@ -1,10 +1,9 @@
-use Rattle.std.proofs.Common.{◌≡◌, ℕ, ◌+◌, ◌-◌, ◌*◌, ◌/◌, ◌%◌, ◌<◌, ◌≤◌, List, length, get_or, sym, refl, ap, ◌∙◌, ⊎_elim, arith, rules}
+use Rattle.std.proofs.Common.{◌≡◌, ℕ, ◌+◌, ◌-◌, ◌/◌, ◌%◌, ◌<◌, ◌≤◌, List, length, get_or}
 use Rattle.aes.specs.Cipher.{cipher}
 use Rattle.aes.specs.Counter.{counter}
 use Rattle.aes_block.specs.Mix.{Shared}
 use Rattle.aes_block.proofs.Lengths.{cipher-length}
-use Rattle.aes.proofs.Stream.{ciphered, as-ctr}
-use Rattle.aes.proofs.Runs.{run-two, both}
+use Rattle.aes.proofs.Stream.{ciphered}
 use Rattle.aes.proofs.counter_mode.ctr_run.Given as goal
 
 abbrev pub invariant-loop-i : goal.invariant-loop-i

@@ -1,6 +1,5 @@
-use Rattle.std.proofs.Common.{◌≡◌, ℕ, ◌+◌, ◌-◌, ◌*◌, ◌/◌, ◌%◌, ◌<◌, ◌≤◌, List, ◌++◌, length, get_or, take, drop, refl, ap, ◌∙◌, arith, rules}
-use Rattle.aes.specs.Cipher.{cipher}
-use Rattle.aes.specs.Counter.{counter, ctr_of}
+use Rattle.std.proofs.Common.{◌≡◌, ℕ, ◌*◌, ◌/◌, ◌<◌, List, get_or, refl, ap, ◌∙◌, arith}
+use Rattle.aes.specs.Counter.{counter}
 use Rattle.aes.proofs.counter_mode.ctr_to.Invariants.{sofar}
 use Rattle.aes.proofs.counter_mode.ctr_to.Goals as goal
 

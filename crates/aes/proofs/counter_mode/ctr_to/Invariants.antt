@@ -1,6 +1,6 @@
-use Rattle.std.proofs.Common.{◌≡◌, ℕ, ◌+◌, ◌-◌, ◌*◌, ◌/◌, ◌%◌, ◌<◌, ◌≤◌, List, ◌++◌, length, get_or, take, drop, refl, ap, ◌∙◌, arith, rules}
+use Rattle.std.proofs.Common.{◌≡◌, ℕ, ◌-◌, ◌%◌, ◌<◌, ◌≤◌, List, ◌++◌, length, take, drop}
 use Rattle.aes.specs.Cipher.{cipher}
-use Rattle.aes.specs.Counter.{counter, ctr_of}
+use Rattle.aes.specs.Counter.{ctr_of}
 use Rattle.aes.proofs.counter_mode.ctr_to.Given as goal
 
 abbrev pub sofar : List ℕ → List ℕ → List ℕ → ℕ → List ℕ

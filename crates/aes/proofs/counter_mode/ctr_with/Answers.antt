@@ -1,6 +1,5 @@
 use Rattle.aes.specs.Cipher.{cipher}
 use Rattle.aes.proofs.Stream.{none, whole}
-use Rattle.std.proofs.Common.{rules}
 use Rattle.aes.proofs.counter_mode.ctr_with.Goals as goal
 
 pub returns : goal.returns

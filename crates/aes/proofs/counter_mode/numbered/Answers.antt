@@ -1,4 +1,4 @@
-use Rattle.std.proofs.Common.{ℕ, List, ◌++◌, take, sym, ap, ◌∙◌, div-one, rules}
+use Rattle.std.proofs.Common.{ℕ, List, ◌++◌, take, sym, ap, ◌∙◌, div-one}
 use Rattle.aes.specs.Octets.{octets}
 use Rattle.aes_block.proofs.Lists.{itself}
 use Rattle.aes.proofs.counter_mode.numbered.Goals as goal

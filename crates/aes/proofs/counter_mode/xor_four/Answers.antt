@@ -1,4 +1,4 @@
-use Rattle.std.proofs.Common.{arith, length-set, rules}
+use Rattle.std.proofs.Common.{arith, length-set}
 use Rattle.aes.proofs.Over.{stored}
 use Rattle.aes.proofs.counter_mode.xor_four.Goals as goal
 

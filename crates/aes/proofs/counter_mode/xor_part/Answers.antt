@@ -1,4 +1,4 @@
-use Rattle.std.proofs.Common.{◌≡◌, ℕ, ◌-◌, ◌≤◌, length, take, sym, refl, ap, ◌∙◌, arith, length-set}
+use Rattle.std.proofs.Common.{◌≡◌, ℕ, ◌-◌, take, sym, refl, ap, ◌∙◌, arith, length-set}
 use Rattle.aes.proofs.Over.{over, over-begin, over-next, parts-of}
 use Rattle.aes.proofs.counter_mode.xor_part.Goals as goal
 

@@ -1,5 +1,5 @@
-use Rattle.std.proofs.Common.{◌≡◌, ℕ, ◌-◌, ◌≤◌, length, take, sym, refl, ap, ◌∙◌, arith, length-set}
-use Rattle.aes.proofs.Over.{over, over-begin, over-next, parts-of}
+use Rattle.std.proofs.Common.{◌≡◌, ◌-◌, ◌≤◌, length, take}
+use Rattle.aes.proofs.Over.{over}
 use Rattle.aes.proofs.counter_mode.xor_part.Given as goal
 
 abbrev pub invariant-loop-j : goal.invariant-loop-j

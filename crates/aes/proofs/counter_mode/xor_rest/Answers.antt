@@ -1,17 +1,17 @@
-use Rattle.std.proofs.Common.{◌≡◌, ◌+◌, ◌-◌, ◌<◌, ◌≤◌, [], get_or, ap, ◌∙◌, ⊎_elim, arith, rules}
+use Rattle.std.proofs.Common.{◌≡◌, ◌+◌, ◌-◌, ◌<◌, ◌≤◌, [], get_or, ap, ◌∙◌, arith}
 use Rattle.aes.specs.Octets.{four}
 use Rattle.aes.specs.Cipher.{from_state}
 use Rattle.aes.proofs.Over.{parts-two}
+use Rattle.aes.proofs.counter_mode.xor_rest.Goals.{then-end-i-lt16, else-end-i-lt16}
 use Rattle.aes.proofs.counter_mode.xor_rest.Goals as goal
 
 pub xor_part-requires : goal.xor_part-requires
 xor_part-requires c =
-    ⊎_elim (λ w. (omega arith, omega arith, omega arith)) (λ w. (omega arith, omega arith, omega arith)) c.if-end-i-lt16.branch
+    elim c.if-end-i-lt16.branch [ then-end-i-lt16 w ↦ (omega arith, omega arith, omega arith) | else-end-i-lt16 w ↦ (omega arith, omega arith, omega arith) ]
 
 pub xor_part-requires-2 : goal.xor_part-requires-2
 xor_part-requires-2 c =
-    ⊎_elim (λ w. (omega arith, omega arith, omega arith)) (λ w. (omega arith, omega arith, omega arith))
-    c.if-end-i-lt16.branch
+    elim c.if-end-i-lt16.branch [ then-end-i-lt16 w ↦ (omega arith, omega arith, omega arith) | else-end-i-lt16 w ↦ (omega arith, omega arith, omega arith) ]
 
 pub returns : goal.returns
 unfolding from_state
@@ -20,8 +20,10 @@ returns c =
     let i = a.i in
     let n = c.if-end-i-lt16.middle in
     let h : (i ≤ n) × (n ≤ a.end) × (n - i ≤ 16) × (a.end - n ≤ 16) × (n - i < 16 → a.end - n ≡ 0) =
-    ⊎_elim (λ w. (omega arith, omega arith, omega arith, omega arith, λ z. omega arith))
-    (λ w. (omega arith, omega arith, omega arith, omega arith, λ z. omega arith)) c.if-end-i-lt16.branch in
+    elim c.if-end-i-lt16.branch [
+      | then-end-i-lt16 w ↦ (omega arith, omega arith, omega arith, omega arith, λ z. omega arith)
+      | else-end-i-lt16 w ↦ (omega arith, omega arith, omega arith, omega arith, λ z. omega arith)
+    ] in
     parts-two a.m.now c.xor_part.new.m _
     (from_state (four (λ c. get_or a.s c []))) (from_state (four (λ c. get_or a.s (c + 4) []))) i n a.end
     h.0 h.1 (omega arith) h.2 h.3 h.4 _ _

@@ -1,4 +1,4 @@
-use Rattle.std.proofs.Common.{ℕ, List, [], ◌++◌, get_or, refl, arith, rules}
+use Rattle.std.proofs.Common.{ℕ, List, [], ◌++◌, get_or, refl, arith}
 use Rattle.aes.specs.Octets.{four}
 use Rattle.aes.specs.Cipher.{from_state}
 use Rattle.aes.proofs.Over.{joined}

@@ -1,4 +1,4 @@
-use Rattle.std.proofs.Common.{ℕ, List, ◌++◌, replicate, ap, ◌∙◌, rules}
+use Rattle.std.proofs.Common.{ℕ, List, ◌++◌, replicate, ap, ◌∙◌}
 use Rattle.aes_block.proofs.Lists.{itself}
 use Rattle.aes.proofs.nas.first_counter.Goals as goal
 

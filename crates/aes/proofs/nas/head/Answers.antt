@@ -1,4 +1,4 @@
-use Rattle.std.proofs.Common.{div-one, rules}
+use Rattle.std.proofs.Common.{div-one}
 use Rattle.aes.specs.Nas.{head}
 use Rattle.aes.proofs.nas.head.Goals as goal
 

@@ -1,4 +1,3 @@
-use Rattle.std.proofs.Common.{rules}
 use Rattle.aes.proofs.nas.nea2_under.Goals as goal
 
 pub returns : goal.returns

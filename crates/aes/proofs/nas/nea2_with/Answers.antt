@@ -1,5 +1,4 @@
 use Rattle.aes.specs.Keys.{nea2_by}
-use Rattle.std.proofs.Common.{rules}
 use Rattle.aes.proofs.nas.nea2_with.Goals as goal
 
 pub returns : goal.returns

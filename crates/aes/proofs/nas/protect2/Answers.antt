@@ -1,7 +1,8 @@
-use Rattle.std.proofs.Common.{ℕ, List, length, ap, ◌∙◌, ⊎_elim, rules}
+use Rattle.std.proofs.Common.{ℕ, List, length, ap, ◌∙◌}
 use Rattle.aes.specs.Keys.{nea2_by}
 use Rattle.aes.proofs.Laws.{nea2-length}
 use Rattle.aes.proofs.Parts.{behind, same_length, short}
+use Rattle.aes.proofs.nas.protect2.Goals.{then-m-gt1, else-m-gt1}
 use Rattle.aes.proofs.nas.protect2.Goals as goal
 
 pub returns-then-m-ge128 : goal.returns-then-m-ge128
@@ -16,9 +17,10 @@ returns c =
     let m = a.m.now in
     let k = a.ciphering_key in
     let f : (List ℕ → List ℕ) = λ l. nea2_by k a.count a.bearer a.direction l in record {
-      ciphered = ⊎_elim
-          (λ w. w.7 ∙ behind 1 m _ f w.4.ensures)
-          (λ w. w.1 ∙ short f (λ l. nea2-length k a.count a.bearer a.direction l) m w.0.left) c.if-m-gt1.branch;
+      ciphered = elim c.if-m-gt1.branch [
+        | then-m-gt1 w ↦ w.m-is ∙ behind 1 m _ f w.nea2_under.ensures
+        | else-m-gt1 w ↦ w.m-is ∙ short f (λ l. nea2-length k a.count a.bearer a.direction l) m w.if-m-gt1.false
+      ];
       code = c.nia2_with.ensures;
     }
 
@@ -26,5 +28,5 @@ pub shape_of-m : goal.shape_of-m
 shape_of-m c =
     let a = c.args in
     let k = a.ciphering_key in
-    ap length (returns-2 c).0 ∙
+    ap length (returns c).ciphered ∙
     same_length (λ (l : List ℕ). nea2_by k a.count a.bearer a.direction l) (λ l. nea2-length k a.count a.bearer a.direction l) a.m.now

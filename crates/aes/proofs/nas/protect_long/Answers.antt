@@ -1,4 +1,4 @@
-use Rattle.std.proofs.Common.{◌≡◌, ℕ, ◌+◌, ◌-◌, ◌/◌, ◌≤◌, List, ◌∷◌, ◌++◌, length, get_or, take, drop, replicate, sym, ap, ◌∙◌, ap₂, arith, length-drop, length-take, take_at, rules}
+use Rattle.std.proofs.Common.{◌≡◌, ℕ, ◌+◌, ◌-◌, ◌/◌, ◌≤◌, List, ◌∷◌, ◌++◌, length, get_or, take, drop, replicate, sym, ap, ◌∙◌, ap₂, arith, length-drop, length-take, take_at}
 use Rattle.aes.specs.Cipher.{cipher}
 use Rattle.aes.specs.Counter.{ctr_of}
 use Rattle.aes.specs.Cmac.{chain}
@@ -35,5 +35,5 @@ returns c =
     let w = a.w.now in record {
       ciphered = behind 1 m _ (λ (l : List ℕ). ctr_of (cipher w) (head a.count a.bearer a.direction ++ replicate 8 0) l)
           (c.cipher_and_chain-x.ensures.ciphered ∙ ap (λ (l : List ℕ). ctr_of (cipher w) l (take (length m - 1) (drop 1 m))) c.first_counter-t.ensures);
-      code = c.code_of_lem.ensures ∙ ap (take 4) c.cmac_from.ensures ∙ rw c.head-h.ensures;
+      code = c.code_of.ensures ∙ ap (take 4) c.cmac_from.ensures ∙ rw c.head-h.ensures;
     }

@@ -1,4 +1,4 @@
-use Rattle.std.proofs.Common.{◌≡◌, ℕ, ◌+◌, ◌-◌, ◌*◌, ◌/◌, ◌%◌, ◌<◌, ◌≤◌, List, [], ◌∷◌, ◌++◌, length, get_or, take, drop, refl, ap, ◌∙◌, ap₂, append_assoc, arith, rules}
+use Rattle.std.proofs.Common.{◌≡◌, ℕ, ◌+◌, ◌-◌, ◌*◌, ◌/◌, ◌%◌, ◌<◌, ◌≤◌, [], ◌∷◌, ◌++◌, length, get_or, take, drop, refl, ap, ◌∙◌, ap₂, append_assoc, arith}
 use Rattle.aes.specs.Octets.{xor}
 use Rattle.aes.specs.Cipher.{from_state, cipher}
 use Rattle.aes.specs.Counter.{counter, ctr_of}
@@ -50,7 +50,7 @@ loop-i-preserved c =
       q.0,
       q.3 c.loop-i.invariant.2 z,
       λ k f. c.run_both-y.ensures.ciphered k (c.loop-i.invariant.3 k f),
-      λ h c f. c.run_both-y.ensures.chained h c (c.loop-i.invariant.4 h c f),
+      λ h n f. c.run_both-y.ensures.chained h n (c.loop-i.invariant.4 h n f),
     )
 
 pub ctr_to-requires-2 : goal.ctr_to-requires-2
@@ -109,7 +109,7 @@ returns c =
 pub shape_of-p : goal.shape_of-p
 shape_of-p c =
     let a = c.args in
-    ap length (returns c).0 ∙ ctr-length (cipher a.w.now) (cipher-length a.w.now) a.t a.p.now
+    ap length (returns c).ciphered ∙ ctr-length (cipher a.w.now) (cipher-length a.w.now) a.t a.p.now
 
 pub bounds-p-0 : goal.bounds-p-0
 bounds-p-0 c = omega (arith, long _ _ _ _ c.requires.1 c.ctr_to.ensures)

@@ -1,13 +1,7 @@
-use Rattle.std.proofs.Common.{◌≡◌, ℕ, ◌+◌, ◌-◌, ◌*◌, ◌/◌, ◌%◌, ◌<◌, ◌≤◌, List, [], ◌∷◌, ◌++◌, length, get_or, take, drop, refl, ap, ◌∙◌, ap₂, append_assoc, arith, rules}
-use Rattle.aes.specs.Octets.{xor}
+use Rattle.std.proofs.Common.{◌≡◌, ℕ, ◌-◌, ◌/◌, ◌%◌, ◌≤◌, List, ◌++◌, length, take, drop}
 use Rattle.aes.specs.Cipher.{from_state, cipher}
-use Rattle.aes.specs.Counter.{counter, ctr_of}
-use Rattle.aes.specs.Cmac.{chain}
-use Rattle.aes_block.specs.Mix.{Shared}
-use Rattle.aes_block.proofs.Lengths.{cipher-length}
-use Rattle.aes_block.proofs.Rounds.{back}
-use Rattle.aes.proofs.Chain.{entering, entering-same, chain-begin, nine, chain-out}
-use Rattle.aes.proofs.Beside.{part_length, from-none, long, all_done, ctr-length, start-kept, summed}
+use Rattle.aes.specs.Counter.{ctr_of}
+use Rattle.aes.proofs.Chain.{entering}
 use Rattle.aes.proofs.sealing.cipher_and_chain.Given as goal
 
 abbrev pub invariant-loop-i : goal.invariant-loop-i

@@ -1,8 +1,7 @@
-use Rattle.std.proofs.Common.{◌≡◌, ℕ, ◌+◌, ◌-◌, ◌*◌, ◌/◌, ◌%◌, ◌<◌, ◌≤◌, List, ◌++◌, length, get_or, take, drop, sym, refl, ap, ◌∙◌, ap₂, arith, rules}
+use Rattle.std.proofs.Common.{◌≡◌, ℕ, ◌+◌, ◌-◌, ◌*◌, ◌/◌, ◌<◌, ◌≤◌, List, ◌++◌, length, get_or, take, drop, sym, refl, ap, ◌∙◌, ap₂, arith}
 use Rattle.aes.specs.Octets.{xor}
-use Rattle.aes.specs.Cipher.{to_state, from_state, cipher}
+use Rattle.aes.specs.Cipher.{from_state, cipher}
 use Rattle.aes.specs.Counter.{counter, ctr_of}
-use Rattle.aes_block.specs.Mix.{Shared}
 use Rattle.aes_block.proofs.Lengths.{cipher-length}
 use Rattle.aes_block.proofs.Rows.{columns-four}
 use Rattle.aes_block.proofs.Rounds.{back, square}
@@ -61,7 +60,7 @@ loop-i-preserved c =
       omega arith,
       omega arith,
       n ∙ c.loop-i.invariant.3,
-      next-octet c.loop-i.o o₀ a.i i a.end c.requires.5 c.loop-i.invariant.2 c.loop-i.invariant.0 enough (c.loop-i.invariant.4 taken) _ c.wrapping_add_u8-o.ensures,
+      next-octet c.loop-i.o o₀ a.i i a.end c.requires.5 c.loop-i.invariant.2 c.loop-i.invariant.0 enough (c.loop-i.invariant.4 taken) _ c.wrapping_add_u8-o.ensures.value,
       made-square _ _ c.xor_states-next.ensures,
       λ t k m h f g.
           let u : c.loop-i.o ≡ get_or (counter t (a.i / 16)) 15 0 + (i / 16 - a.i / 16) = c.loop-i.invariant.4 taken ∙ ap (λ (z : ℕ). z + (i / 16 - a.i / 16)) f in

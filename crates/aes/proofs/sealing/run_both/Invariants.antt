@@ -1,14 +1,8 @@
-use Rattle.std.proofs.Common.{◌≡◌, ℕ, ◌+◌, ◌-◌, ◌*◌, ◌/◌, ◌%◌, ◌<◌, ◌≤◌, List, ◌++◌, length, get_or, take, drop, sym, refl, ap, ◌∙◌, ap₂, arith, rules}
-use Rattle.aes.specs.Octets.{xor}
+use Rattle.std.proofs.Common.{◌≡◌, ℕ, ◌+◌, ◌-◌, ◌/◌, ◌%◌, ◌<◌, ◌≤◌, List, ◌++◌, length, get_or, take, drop}
 use Rattle.aes.specs.Cipher.{to_state, from_state, cipher}
 use Rattle.aes.specs.Counter.{counter, ctr_of}
 use Rattle.aes_block.specs.Mix.{Shared}
-use Rattle.aes_block.proofs.Lengths.{cipher-length}
-use Rattle.aes_block.proofs.Rows.{columns-four}
-use Rattle.aes_block.proofs.Rounds.{back, square}
-use Rattle.aes.proofs.Over.{laid}
-use Rattle.aes.proofs.Chain.{from-length, entering, chain_more}
-use Rattle.aes.proofs.Beside.{laid-length, laid-before, block_more, this-octet, next-octet, left-block, right-block, made-square, summed}
+use Rattle.aes.proofs.Chain.{entering}
 use Rattle.aes.proofs.sealing.run_both.Given as goal
 
 abbrev pub invariant-loop-i : goal.invariant-loop-i

@@ -1,16 +1,10 @@
--- Octets copied to the front of an output, and three behind them.
+-- Three octets behind the front of an output.
 use mathlib.Core.Path.{◌≡◌, ap, ◌∙◌}
 use mathlib.Core.List.{List, [], ◌∷◌, ◌++◌, append-nil}
-use Prim.Native.Nat.{ℕ, suc, ◌+◌, ◌≤◌}
+use Prim.Native.Nat.{ℕ, suc, ◌+◌}
 use native.Mathlib.Omega.{arith}
 use lib.ListN.{length, take, drop, set, drop_of_length-le}
-use lib.Seq.{sets-eq, take_at, take-length, length-take-le}
-
--- a copy of the first n octets
-pub copied : (m out : List ℕ) (n : ℕ) → n ≤ length m → take n (take (length (take n m)) (take n m) ++ drop (length (take n m)) out) ≡ take n m
-copied m out n h =
-    ap (λ (z : List ℕ). take n (z ++ drop (length (take n m)) out)) (take-length (take n m))
-    ∙ take_at (take n m) (drop (length (take n m)) out) n (length-take-le n m h)
+use lib.Seq.{sets-eq}
 
 pub three : (y : List ℕ) (n a b d : ℕ) → length y ≡ n + 3 → set (set (set y n a) (n + 1) b) (n + 2) d ≡ take n y ++ (a ∷ b ∷ d ∷ [])
 three y n a b d h =

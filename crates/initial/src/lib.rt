@@ -1,5 +1,6 @@
 // Initial messages and their NAS message container: the walk over optional parts, the cleartext message, the container's place. No key, no COUNT.
 #![tactic(auto)]
+
 ghost use Rattle.std.specs.Prelude.{◌≡◌, ◌+◌, ◌≤◌, ◌<◌, length, get_or};
 ghost use Rattle.initial.specs.Parts.{format_of, head_of, number, value_length, part_length};
 ghost use Rattle.initial.specs.Walk.{walk_from, container_in, kept, container_of};

@@ -2,15 +2,15 @@
 use mathlib.Core.Path.{◌≡◌, refl, ap, sym, ◌∙◌}
 use mathlib.Core.Bool.{Bool, true, false, not, ◌&&◌}
 use mathlib.Core.List.{List, [], ◌∷◌, ◌++◌, append_assoc, append-nil}
-use Prim.Native.Nat.{ℕ, zero, suc, ◌+◌, ◌*◌, ◌/◌, ◌%◌, ◌-◌, ◌≤◌, ◌<◌}
+use Prim.Native.Nat.{ℕ, zero, suc, ◌+◌, ◌-◌, ◌≤◌, ◌<◌}
 use native.Mathlib.Nat.{div-add-mod'}
 use native.Mathlib.Omega.{arith}
-use lib.Dec.{leb, eqb}
+use lib.Dec.{eqb}
 use lib.ListN.{length, get_or, take, drop, length-append, length-drop}
-use lib.Seq.{take-append_seam, drop-append_seam, drop_at}
-use borrow.Author.Tests.{le-leb, leb-true, eq-eqb, ne_eqb, eqb-true}
+use lib.Seq.{take-append_seam, drop-append_seam}
+use borrow.Author.Tests.{le-leb, leb-true, eq-eqb, ne_eqb}
 use Rattle.journal.specs.Records.{is_allowed, most, size_at, well_formed, head_of, record_of}
-use Rattle.journal.specs.Items.{Item, call, skipped, call_at, items}
+use Rattle.journal.specs.Items.{Item, call, skipped, items}
 use Rattle.journal.specs.Laws.{stops, Next, are_written, records, calls, markless, Back}
 use Rattle.journal.proofs.Known.{by, both, stands}
 use Rattle.journal.proofs.Reading.{at-record, at-damage, sentence}

@@ -1,6 +1,6 @@
 -- Every octet is counted once, and stretches never touch.
-use mathlib.Core.Path.{◌≡◌, refl, ap, sym, ◌∙◌}
-use mathlib.Core.Bool.{true, false}
+use mathlib.Core.Path.{◌≡◌, refl}
+use mathlib.Core.Bool.{true}
 use mathlib.Core.List.{List, [], ◌∷◌}
 use Prim.Native.Nat.{ℕ, zero, suc, ◌+◌, ◌≤◌}
 use native.Mathlib.Omega.{arith}
@@ -11,7 +11,6 @@ use Rattle.journal.specs.Records.{size_at, well_formed}
 use Rattle.journal.specs.Items.{Item, call, call_at, after, items_from, items}
 use Rattle.journal.specs.Laws.{skipped_in, done_in, are_apart, Counted}
 use Rattle.journal.proofs.Known.{by, stands}
-use Rattle.journal.proofs.Reading.{one_more}
 
 abbrev octets_of : List Item → ℕ
 octets_of is = skipped_in is + done_in is

@@ -2,7 +2,7 @@
 use mathlib.Core.Path.{◌≡◌, refl, ap, sym, subst, ◌∙◌}
 use mathlib.Core.Bool.{Bool, true, false, cond}
 use mathlib.Core.List.{List, [], ◌∷◌, ◌++◌, append_assoc, append-nil}
-use Prim.Native.Nat.{ℕ, zero, suc, ◌+◌, ◌*◌, ◌≤◌, ◌<◌}
+use Prim.Native.Nat.{ℕ, zero, suc, ◌+◌, ◌≤◌, ◌<◌}
 use native.Mathlib.Omega.{arith}
 use lib.Dec.{leb, eqb}
 use lib.ListN.{length, get_or, take, drop, length-append, length-drop, get_or-append}
@@ -10,11 +10,11 @@ use lib.Seq.{take-append-le, drop-append-le}
 use borrow.Author.Tests.{leb-true, leb-false, eqb-true, eqb-false}
 use Rattle.journal.specs.declared.Step.{Step}
 use Rattle.journal.specs.declared.Step.TheVariants.{Call, Pass, More, End}
-use Rattle.journal.specs.Records.{is_allowed, most, head, size_at, well_formed}
+use Rattle.journal.specs.Records.{most, head, size_at, well_formed}
 use Rattle.journal.specs.Items.{Item, call, call_at, after, items_from, items}
-use Rattle.journal.specs.Window.{passed, step_of, go_on, read_from, joined}
+use Rattle.journal.specs.Window.{step_of, go_on, read_from, joined}
 use Rattle.journal.specs.Laws.{Follows, Decides}
-use Rattle.journal.proofs.Known.{by, Stands, stands, formed}
+use Rattle.journal.proofs.Known.{by, stands, formed}
 use Rattle.journal.proofs.Reading.{at-record, one_more}
 
 -- the first octets are those of the window

@@ -1,6 +1,6 @@
 -- Small journals, read.
 use mathlib.Core.Path.{◌≡◌, refl}
-use mathlib.Core.List.{List, [], ◌∷◌}
+use mathlib.Core.List.{[], ◌∷◌}
 use Rattle.journal.specs.Records.{is_allowed, size_at, well_formed}
 use Rattle.journal.specs.Items.{call, skipped, items_from, items}
 

@@ -1,13 +1,13 @@
 -- An output written behind a front that stands already, and the refusals of a length that is counted no further than 60,001.
-use mathlib.Core.Path.{◌≡◌, refl, ap, sym, ◌∙◌}
+use mathlib.Core.Path.{◌≡◌, refl, ap, ◌∙◌}
 use mathlib.Core.Bool.{Bool, true, false, not}
 use mathlib.Core.List.{List, [], ◌∷◌, ◌++◌, append-nil}
 use Prim.Native.Nat.{ℕ, zero, suc, ◌+◌, ◌-◌, ◌≤◌, ◌<◌, min}
-use native.Mathlib.Nat.{min-le_left, min-eq_left, min-eq_right}
+use native.Mathlib.Nat.{min-eq_left, min-eq_right}
 use native.Mathlib.Omega.{arith}
 use lib.Dec.{leb, ltb}
-use lib.ListN.{length, get_or, take, drop, length-take, length-drop, drop_of_length-le}
-use lib.Seq.{take_at, take-length}
+use lib.ListN.{length, get_or, take, drop, length-drop, drop_of_length-le}
+use lib.Seq.{take_at}
 use borrow.Author.Tests.{le-leb, ne_eqb, lt-ltb, ltb-false, leb-true, leb-false}
 use Rattle.refusals.specs.Order.{◌when◌, first}
 use Rattle.journal.specs.Records.{Lengths, none, exactly, at_least, kinds, allows, is_allowed, most}
@@ -23,14 +23,6 @@ behind y z p q a h e =
     ap (λ (l : List ℕ). l ++ (z ++ drop (length y - a) (drop a y))) front
     ∙ ap (λ (l : List ℕ). p ++ (z ++ l)) rest
     ∙ ap (λ (l : List ℕ). p ++ l) (append-nil z)
-
--- a copy that fills all it is lent
-pub filled : (s l z : List ℕ) (n : ℕ) → n ≤ length s → z ≡ take (length s) s ++ drop (length s) (take n l) → z ≡ s
-filled s l z n h e =
-    let short : length (take n l) ≤ length s = simp length-take (omega (arith, min-le_left n (length l))) in
-    e ∙ ap (λ (x : List ℕ). x ++ drop (length s) (take n l)) (take-length s)
-    ∙ ap (λ (x : List ℕ). s ++ x) (drop_of_length-le (take n l) short)
-    ∙ append-nil s
 
 -- the table has no number above 60,000
 abbrev Short : Lengths → Type 0

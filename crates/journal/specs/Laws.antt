@@ -1,6 +1,5 @@
 -- What holds of reading and writing: stated here, proved in proofs/Laws.antt.
 use Rattle.std.specs.Prelude.{ℕ, ◌+◌, ◌≤◌, ◌<◌, ◌≡◌, Bool, true, false, not, ◌&&◌, ◌||◌, List, [], ◌∷◌, ◌++◌, leb, ltb, eqb, length, take, drop}
-use Rattle.journal.specs.declared.Step.{Step}
 use Rattle.journal.specs.declared.Step.TheVariants.{Call, Pass, More, End}
 use Rattle.journal.specs.Records.{is_allowed, most, head, size_at, well_formed, record_of}
 use Rattle.journal.specs.Items.{Item, call, skipped, call_at, items}

@@ -1,5 +1,5 @@
 -- A journal that is read by pieces: what a position is, as far as its octets are there, and what a reader gives that goes by it.
-use Rattle.std.specs.Prelude.{ℕ, zero, suc, ◌+◌, Bool, true, false, cond, List, [], ◌∷◌, ◌++◌, leb, eqb, length, get_or, take, drop}
+use Rattle.std.specs.Prelude.{ℕ, zero, suc, ◌+◌, Bool, true, cond, List, [], ◌∷◌, ◌++◌, leb, eqb, length, get_or, take, drop}
 use Rattle.journal.specs.declared.Step.{Step}
 use Rattle.journal.specs.declared.Step.TheVariants.{Call, Pass, More, End}
 use Rattle.journal.specs.Records.{most, head, size_at, well_formed}

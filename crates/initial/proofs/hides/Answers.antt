@@ -1,5 +1,4 @@
 use Rattle.initial.specs.Outer.{hides}
-use borrow.Author.Rules.{rules}
 use Rattle.initial.proofs.hides.Goals as goal
 
 pub returns : goal.returns

@@ -1,6 +1,5 @@
 use Rattle.initial.specs.Inside.{is_asked}
 use borrow.Author.Tests.{eq-eqb, ne_eqb}
-use borrow.Author.Rules.{rules}
 use Rattle.initial.proofs.is_asked.Goals as goal
 
 pub returns-then-header_type-ne1 : goal.returns-then-header_type-ne1

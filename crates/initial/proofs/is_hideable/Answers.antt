@@ -1,6 +1,5 @@
 use mathlib.Core.Path.{sym, ◌∙◌}
 use Rattle.initial.specs.Outer.{is_hideable}
-use borrow.Author.Rules.{rules}
 use Rattle.initial.proofs.is_hideable.Goals as goal
 
 pub returns-in-Fails : goal.returns-in-Fails

@@ -1,6 +1,5 @@
 use Rattle.initial.specs.Messages.{is_initial}
 use mathlib.Core.Path.{sym, ◌∙◌}
-use borrow.Author.Rules.{rules}
 use Rattle.initial.proofs.is_initial.Goals as goal
 
 pub returns-then-is_of : goal.returns-then-is_of

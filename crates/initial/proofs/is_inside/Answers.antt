@@ -4,7 +4,6 @@ use Rattle.look.specs.Look.{is_of}
 use lib.ListN.{get_or}
 use Rattle.initial.specs.Inside.{is_inside}
 use mathlib.Core.Path.{◌≡◌, ap, sym, ◌∙◌}
-use borrow.Author.Rules.{rules}
 use Rattle.initial.proofs.is_inside.Goals.{After-is_of}
 use Rattle.initial.proofs.is_inside.Goals as goal
 

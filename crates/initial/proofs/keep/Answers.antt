@@ -1,5 +1,4 @@
 use borrow.Author.Tests.{eq-eqb, ne_eqb}
-use borrow.Author.Rules.{rules}
 use Rattle.initial.proofs.keep.Goals as goal
 
 pub returns-then-identifier-ne113 : goal.returns-then-identifier-ne113

@@ -1,6 +1,5 @@
 use Rattle.initial.specs.Messages.{mandatory_length}
 use native.Mathlib.Omega.{arith}
-use borrow.Author.Rules.{rules}
 use Rattle.initial.proofs.mandatory_length.Goals as goal
 
 pub returns : goal.returns

@@ -1,6 +1,5 @@
 use Rattle.initial.specs.Outer.{outer_length}
 use mathlib.Core.Path.{sym, ◌∙◌}
-use borrow.Author.Rules.{rules}
 use Rattle.initial.proofs.outer_length.Goals as goal
 
 pub returns-then-hides : goal.returns-then-hides

@@ -1,6 +1,5 @@
 use Rattle.initial.specs.Parts.{part_length, head_length}
 use native.Mathlib.Omega.{arith}
-use borrow.Author.Rules.{rules}
 use Rattle.initial.proofs.part_length.Goals as goal
 
 pub returns : goal.returns

@@ -1,10 +1,10 @@
 use mathlib.Core.Path.{◌≡◌, ap, sym, ◌∙◌}
-use Prim.Native.Nat.{◌+◌, ◌-◌, ◌≤◌}
+use Prim.Native.Nat.{◌+◌, ◌≤◌}
 use native.Mathlib.Omega.{arith}
 use borrow.Author.Rules.{rules}
 use lib.ListN.{length, drop}
 use Rattle.initial.specs.Parts.{value_length, part_length}
-use Rattle.initial.specs.Walk.{Walk, walk_from, container_in}
+use Rattle.initial.specs.Walk.{Walk, walk_from}
 use Rattle.initial.proofs.Walks.{some, stop, done, more, turn, rest, from-none, no_more}
 use Rattle.initial.proofs.walk.Goals.{After-part_length-size, After-value_length-length}
 use Rattle.initial.proofs.walk.Goals as goal
@@ -12,11 +12,11 @@ use Rattle.initial.proofs.walk.Goals as goal
 -- At each turn, what is found so far and what the walk finds from here on come to the answer.
 
 -- the part at this turn, as the calls answer it
-size : (c : After-part_length-size
+size : (c : After-part_length-size)
     → c.part_length-size.result ≡ part_length (drop c.loop-at.at c.args.message.now)
 size c = c.part_length-size.ensures.0 ∙ ap part_length (rest c.loop-at.at c.args.message.now)
 
-value : (c : After-value_length-length
+value : (c : After-value_length-length)
     → c.value_length-length.result ≡ value_length (drop c.loop-at.at c.args.message.now)
 value c = c.value_length-length.ensures.0 ∙ ap value_length (rest c.loop-at.at c.args.message.now)
 

@@ -1,11 +1,8 @@
-use mathlib.Core.Path.{◌≡◌, ap, sym, ◌∙◌}
-use Prim.Native.Nat.{◌+◌, ◌-◌, ◌≤◌}
-use native.Mathlib.Omega.{arith}
-use borrow.Author.Rules.{rules}
-use lib.ListN.{length, drop}
-use Rattle.initial.specs.Parts.{value_length, part_length}
-use Rattle.initial.specs.Walk.{Walk, walk_from, container_in}
-use Rattle.initial.proofs.Walks.{some, stop, done, more, turn, rest, from-none, no_more}
+use mathlib.Core.Path.{◌≡◌}
+use Prim.Native.Nat.{◌-◌, ◌≤◌}
+use lib.ListN.{length}
+use Rattle.initial.specs.Walk.{walk_from, container_in}
+use Rattle.initial.proofs.Walks.{more}
 use Rattle.initial.proofs.walk.Given as goal
 
 abbrev pub invariant-loop-at : goal.invariant-loop-at

@@ -2,8 +2,7 @@ use mathlib.Core.Path.{sym, ◌∙◌}
 use Prim.Native.Nat.{◌+◌, ◌≤◌}
 use native.Mathlib.Omega.{arith}
 use lib.ListN.{length}
-use borrow.Author.Rules.{rules}
-use borrow.Author.Tests.{lt-leb, le-leb, eq-eqb, ne_eqb, not-true, not-false}
+use borrow.Author.Tests.{le-leb, eq-eqb, ne_eqb}
 use Rattle.journal.specs.Records.{well_formed}
 use Rattle.journal.proofs.Known.{too_few, marked, and-true}
 use Rattle.journal.proofs.is_well_formed.Goals as goal

@@ -32,6 +32,10 @@ found-quiet Wrong = tt
 used-taken : (o : Opening) (c : ℕ) → In c (used (act_of false o)) → Takes o c
 used-taken (Late x) c (inl e) = inl (ap Late (sym e))
 used-taken (Forward x) c (inl e) = inr (ap Forward (sym e))
+used-taken (Late x) c (inr x3) = elim x3 [ ]
+used-taken (Forward x) c (inr x4) = elim x4 [ ]
+used-taken None c x3 = elim x3 [ ]
+used-taken Wrong c x4 = elim x4 [ ]
 
 taken-used : (o : Opening) (c : ℕ) → Takes o c → In c (used (act_of false o))
 taken-used o c (inl e) = rw e (inl refl)
@@ -121,6 +125,7 @@ module _ {X : Type 0} (L : Link X) (state : X → State) (Good : X → X → Typ
 
     right : (l : List L.Seal) → AllAllowed L l → (n : Place L (sent_by L z l)) → Right z (at L (sent_by L z l) n)
     right (s ∷ l) h n = each-added L (Right z) (uses-one s l) (made s l) (sent_by L z l) (λ e. ((sends s l h).sent e).2) (right l h.1) n
+    right [] h n = elim n [ ]
 
     below : (l : List L.Seal) → AllAllowed L l → (n : Place L (sent_by L z l)) → (at L (sent_by L z l) n).count < (state (sender l)).at.next
     below (s ∷ l) h n = go (uses-one s l) refl (below l h.1) n
@@ -131,6 +136,7 @@ module _ {X : Type 0} (L : Link X) (state : X → State) (Good : X → X → Typ
         go true e old (inl u) = let q = (sends s l h).sent e in omega (arith, q.1)
         go true e old (inr n) = let q = (sends s l h).sent e in omega (arith, q.0, q.1, old n)
         go false e old n = let q = (sends s l h).refused e in omega (arith, q, old n)
+    below [] h n = elim n [ ]
 
     apart : (l : List L.Seal) → AllAllowed L l → Apart L (sent_by L z l)
     unfolding Apart
@@ -229,6 +235,7 @@ module _ {X : Type 0} (L : Link X) (state : X → State) (Good : X → X → Typ
         let i = subst (In c) (sym (takes b l).answers) (taken-used (found b l) c ((takes b l).accepts.1 h.1)) in
         subst (λ (n : Place L sent). In (at L sent n).count (got (b ∷ l))) h.0 (in-first c (said b l) (got l) i)
     was-in (b ∷ l) n (inr h) = in-second (at L sent n).count (said b l) (got l) (was-in l n h)
+    was-in [] n x' = elim x' [ ]
 
     in-was : (l : Arrivals) (n : Place L sent) → In (at L sent n).count (got l) → WasAccepted L sent y n l
     unfolding Apart
@@ -238,10 +245,12 @@ module _ {X : Type 0} (L : Link X) (state : X → State) (Good : X → X → Typ
           | inl j ↦ let t = used-taken (found b l) c (subst (In c) (takes b l).answers j) in inl (apart b.from n (sym (own b l c t)), own-taken b l c t)
           | inr j ↦ inr (in-was l n j)
         ]
+    in-was [] n i = elim i [ ]
 
     was-arrived : (l : Arrivals) (n : Place L sent) → WasAccepted L sent y n l → Arrived L sent y n l
     was-arrived (b ∷ l) n (inl h) = inl h.0
     was-arrived (b ∷ l) n (inr h) = inr (was-arrived l n h)
+    was-arrived [] n x' = elim x' [ ]
 
     module _ (a : Arrival L sent) (l : Arrivals) where
       abbrev c : ℕ

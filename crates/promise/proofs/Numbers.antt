@@ -36,6 +36,7 @@ there n (a ∷ l) e = elim (or-either n a (is_in n l) e) [ inl q ↦ inl q | inr
 is-in : (n : ℕ) (l : List ℕ) → In n l → is_in n l ≡ true
 is-in n (a ∷ l) (inl e) = simp (eq-eqb n a e)
 is-in n (a ∷ l) (inr h) = or_right (eqb n a) (is_in n l) (is-in n l h)
+is-in n [] x' = elim x' [ ]
 
 pub not_there : (n : ℕ) (l : List ℕ) → is_in n l ≡ false → In n l → ⊥
 not_there n l e h = let z : ◌≡◌ {A = ℕ} 0 1 = cc (is-in n l h) in omega arith
@@ -86,3 +87,4 @@ and_parts false b e = (e, (cc))
 pub widen : (l s : List ℕ) → subset l s ≡ true → (n : ℕ) → In n l → In n s
 widen (a ∷ l) s e n (inl q) = rw q (there a s (and_parts (is_in a s) (subset l s) e).0)
 widen (a ∷ l) s e n (inr h) = widen l s (and_parts (is_in a s) (subset l s) e).1 n h
+widen [] s e n x'' = elim x'' [ ]

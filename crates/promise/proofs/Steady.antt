@@ -32,6 +32,7 @@ next-in (a ∷ l) c e =
 pub in-under : (l : List ℕ) (c : ℕ) → In c l → c < next_of l
 in-under (a ∷ l) c (inl e) = omega arith
 in-under (a ∷ l) c (inr i) = let h = in-under l c i in omega arith
+in-under [] c x' = elim x' [ ]
 
 -- no new size, nothing closed
 abbrev pub Quiet : Act → Type 0

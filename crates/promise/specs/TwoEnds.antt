@@ -77,6 +77,7 @@ module _ {X : Type 0} (L : Link X) where
   abbrev pub at : (l : List Message) → Place l → Message
   at (m ∷ l) (inl here) = m
   at (m ∷ l) (inr n) = at l n
+  at [] x' = elim x' [ ]
 
   -- "no sealed message's code fits a COUNT other than its own": of what was sent, and of the COUNTs, the numbers below 2^24
   abbrev pub NoOther : X → List Message → Type 0

@@ -7,7 +7,7 @@ use mathlib.Core.List.{List, [], ◌∷◌}
 use native.Mathlib.Omega.{arith}
 use lib.ListN.{length, get_or}
 use lib.Dec.{eqb, ltb, leb}
-use borrow.Author.Tests.{eqb-true, eq-eqb, ne_eqb, ltb-false, le-ltb, leb-false, lt-leb, not-false}
+use borrow.Author.Tests.{eqb-true, eq-eqb, ltb-false, le-ltb, leb-false, lt-leb, not-false}
 use Rattle.count.specs.declared.Opening.{Opening}
 use Rattle.count.specs.declared.Opening.TheVariants.{Late, Forward, None, Wrong}
 use Rattle.count.specs.declared.Candidate.{Candidate}
@@ -40,7 +40,7 @@ use Rattle.nas_5gs.specs.Open.{type_of, open_refusal, plain_of, opened, open_of}
 use Rattle.nas_5gs.specs.Eps.{eps_place, not_eps, eps_message, seal_eps_refusals, seal_eps_refusal}
 use Rattle.nas_5gs.specs.Containers.{container_place, container_bearer, container_direction, none_left, s1_count, s1_to_n1, s1_to_n1_refusals, s1_to_n1_refusal, other_algorithms, verify_s1_to_n1_refusals, verify_s1_to_n1_refusal}
 use Rattle.promises.specs.Calls.{Call, seal5gs, seal_opaque, seal_initial, open5gs, seal_eps, make_n1_to_s1, verify_n1_to_s1, make_s1_to_n1, verify_s1_to_n1, Outcome, outcome, gives}
-use Rattle.promises.specs.Words.{Succeeds, Uses, written}
+use Rattle.promises.specs.Words.{Succeeds, Uses}
 use Rattle.promises.specs.Demand2.{CanSend, Passes, Accepts, SealedNothing, Octets, Demand2}
 use Rattle.promises.proofs.Shapes.{refusal_of, octet_found, octet_refused, octet_used}
 use Rattle.promises.proofs.Passing.{passes, sends, gives-passed, gives-refused}

@@ -27,7 +27,6 @@ use Rattle.nas_5gs.specs.declared.Context.{Context}
 use Rattle.nas_5gs.specs.declared.Direction.{Direction}
 use Rattle.nas_5gs.specs.declared.Direction.TheVariants.{Uplink}
 use Rattle.nas_5gs.specs.declared.Connection.{Connection}
-use Rattle.nas_5gs.specs.declared.ChangeAnswer.TheVariants as change
 use Rattle.nas_5gs.specs.declared.UseAnswer.TheVariants as use'
 use Rattle.nas_5gs.specs.declared.OpenAnswer.TheVariants as open'
 use Rattle.nas_5gs.specs.declared.EpsOpenAnswer.TheVariants as eps

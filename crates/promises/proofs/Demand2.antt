@@ -1,5 +1,5 @@
 -- Demand 2: what a seal writes, and the round trip.
-use Prim.Native.Nat.{ℕ, ◌+◌, ◌≤◌, ◌<◌}
+use Prim.Native.Nat.{ℕ, ◌+◌, ◌≤◌}
 use mathlib.Core.Path.{◌≡◌, refl, sym, ap, ◌∙◌, subst}
 use mathlib.Core.Bool.{Bool, true, false, cond, ◌||◌}
 use mathlib.Core.Logic.{inl, ⊎_elim, ◌↔◌}
@@ -8,16 +8,13 @@ use native.Mathlib.Omega.{arith}
 use lib.ListN.{length, get_or, drop}
 use lib.Seq.{take-append_seam}
 use lib.Dec.{ltb}
-use borrow.Author.Tests.{ltb-false, le-ltb, lt-leb}
+use borrow.Author.Tests.{ltb-false}
 use Rattle.count.specs.declared.Opening.{Opening}
 use Rattle.count.specs.declared.Opening.TheVariants.{Late, Forward, None, Wrong}
 use Rattle.count.specs.Run.{In}
-use Rattle.count.specs.Rule.{exhausted}
-use Rattle.refusals.specs.Order.{first}
-use Rattle.nas_core.specs.Refusals.{limit, send_refusals}
 use Rattle.refusals.proofs.Laws.{passed, off}
 use Rattle.nas_core.specs.Keyed.{payload}
-use Rattle.look.specs.Look.{not_known, not_together, wrong_way, look_refusals, look_of}
+use Rattle.look.specs.Look.{not_known, not_together, wrong_way, look_of}
 use Rattle.initial.specs.Messages.{is_initial}
 use Rattle.initial.specs.Outer.{is_hideable, hides, outer_of}
 use Rattle.initial.specs.Inside.{Hidden, refused, handed, is_asked, hidden_of, ends_in18}
@@ -44,7 +41,7 @@ use Rattle.promises.specs.Words.{SameKeys, TakenAs, Succeeds, Uses, written}
 use Rattle.promises.specs.Demand1.{inside5gs}
 use Rattle.promises.specs.Demand2.{Writes, EndsIn18, HandsWhole, RoundTrip}
 use Rattle.promise.proofs.Answers.{names, takes-taken}
-use Rattle.promises.proofs.Shapes.{holding, refusal_of, found, plain, opened_as, eps_found, eps_as}
+use Rattle.promises.proofs.Shapes.{holding, found, plain, opened_as, eps_found, eps_as}
 use Rattle.promises.proofs.Passing.{passes, sends, gives-passed, uses-passed}
 use Rattle.promises.proofs.Numbers.{not_there}
 use Rattle.promises.proofs.Opening.{eps-sealed, payloads-same, payload_twice, envelope-same, eps-same}

@@ -23,12 +23,12 @@ use Rattle.nas_5gs.specs.declared.OpenAnswer.TheVariants as open'
 use Rattle.nas_5gs.specs.declared.EpsOpenAnswer.TheVariants as eps
 use Rattle.nas_5gs.specs.declared.VerifyAnswer.TheVariants as verify
 use Rattle.nas_5gs.specs.Places.{direction_no, bearer_no, place_of, record_at, fault_of}
-use Rattle.nas_5gs.specs.Leaves.{leaves, over, use_next, received, Values, use_values, open_values, eps_open_values, verify_values}
+use Rattle.nas_5gs.specs.Leaves.{leaves, over, use_next, received, Values, open_values, eps_open_values, verify_values}
 use Rattle.nas_5gs.specs.Envelope.{envelope}
 use Rattle.envelope.specs.Initial.{initial_envelope, beside}
 use Rattle.nas_5gs.specs.Seal.{seal_refusal, opaque_refusal}
 use Rattle.nas_5gs.specs.Initial.{initial_refusal}
-use Rattle.nas_5gs.specs.Open.{open_refusal, opened, handed}
+use Rattle.nas_5gs.specs.Open.{open_refusal}
 use Rattle.nas_5gs.specs.Eps.{eps_place, eps_message, seal_eps_refusal, open_eps_refusal, eps_opened, eps_handed}
 use Rattle.nas_5gs.specs.Containers.{container_place, s1_to_n1, s1_to_n1_refusal, verify_s1_to_n1_refusal}
 use Rattle.promises.specs.Calls.{Call, set_window, reselect, seal5gs, seal_opaque, seal_initial, open5gs, seal_eps, open_eps, make_n1_to_s1, verify_n1_to_s1, make_s1_to_n1, verify_s1_to_n1, Outcome, outcome, gives, second, lent, place_in, context_after}
@@ -77,6 +77,8 @@ module _ (k : Call) (x : Context) (on : place_in k < 4) where
       go : (a : Act) → Quiet a → (Rattle.count.specs.Run.act a (record_of (place_in k) x)).size ≡ x.core.size
       go stay q = refl
       go (uses w c) q = refl
+      go (resize _) q = elim q [ ]
+      go close q = elim q [ ]
 
   keys-stay : SameKeys x.core (gives k x).context.core ⊎ Reselects k x → SameKeys x.core (gives k x).context.core
   keys-stay (inl s) = s

@@ -85,6 +85,10 @@ module _ (x : Context) (w : wraps x.core ≡ true) where
   unfolding use_round
   round-used stay s c r e = let z : ◌≡◌ {A = ℕ} 0 1 = cc in absurd (omega arith)
   round-used (uses round n) s c r e = let q : n ≡ c = cc in rw q
+  round-used (uses forward n) s c r e = elim r [ ]
+  round-used (uses late n) s c r e = elim r [ ]
+  round-used (resize _) s c r e = elim r [ ]
+  round-used close s c r e = elim r [ ]
 
   uses-round : (k : Call) (c : ℕ) → Four x → place_in k < 4 → Uses (gives k x) c
       → record_at (gives k x).context (place_in k) ≡ record { next = (c + 1) % exhausted; bits = (record_at x (place_in k)).bits }

@@ -1,5 +1,5 @@
 -- Which numbers a call's refusals can have.
-use Prim.Native.Nat.{ℕ, ◌-◌}
+use Prim.Native.Nat.{ℕ}
 use mathlib.Core.Path.{◌≡◌, refl, subst}
 use mathlib.Core.Bool.{true, false, not, ◌||◌}
 use mathlib.Core.Logic.{inl, inr}

@@ -25,7 +25,7 @@ use Rattle.nas_5gs.specs.declared.EpsOpenAnswer.TheVariants as eps
 use Rattle.nas_5gs.specs.declared.VerifyAnswer.TheVariants as verify
 use Rattle.nas_5gs.specs.Places.{direction_no, bearer_no, place_of, record_at, next_at, fault_of}
 use Rattle.nas_5gs.specs.Leaves.{leaves, over, use_next, received, Values, open_values, eps_open_values, verify_values}
-use Rattle.nas_5gs.specs.Open.{type_of, handed, opened}
+use Rattle.nas_5gs.specs.Open.{type_of}
 use Rattle.nas_5gs.specs.Eps.{eps_place, eps_bearer, eps_direction, not_eps, eps_handed, eps_opened}
 use Rattle.nas_5gs.specs.Containers.{container_place}
 use Rattle.promises.specs.Calls.{Call, set_window, reselect, seal5gs, seal_opaque, seal_initial, open5gs, seal_eps, open_eps, make_n1_to_s1, verify_n1_to_s1, make_s1_to_n1, verify_s1_to_n1, Outcome, outcome, gives, lent, place_in}

@@ -1,7 +1,7 @@
 -- No second answer fits, and wrong contexts do not keep demand 3.
 use Prim.Native.Nat.{ℕ, ◌-◌, ◌%◌, ◌≤◌, ◌<◌}
 use mathlib.Core.Path.{◌≡◌, refl, sym, ap, ◌∙◌, subst}
-use mathlib.Core.Bool.{Bool, true, false, cond}
+use mathlib.Core.Bool.{Bool, true, cond}
 use mathlib.Core.Logic.{inl, inr, ⊎_elim}
 use mathlib.Core.List.{List, [], ◌∷◌, zip_with}
 use native.Mathlib.Omega.{arith}
@@ -40,12 +40,11 @@ use Rattle.nas_5gs.specs.Places.{place_of, record_at, next_at}
 use Rattle.nas_5gs.specs.Leaves.{LeavesTwo, leaves_two, Leaves, leaves, Values, change_values, use_values, open_values, eps_open_values, octet_values, verify_values}
 use Rattle.nas_5gs.specs.Changes.{context_with, resized, new_of}
 use Rattle.nas_5gs.specs.Envelope.{envelope}
-use Rattle.promises.specs.Calls.{Call, set_window, seal5gs, seal_opaque, seal_initial, open5gs, seal_eps, open_eps, make_n1_to_s1, verify_n1_to_s1, make_s1_to_n1, verify_s1_to_n1, reselect, Making, Outcome, outcome, first_of, second_of, gives, makes, used_by, context_after, counts_used}
+use Rattle.promises.specs.Calls.{Call, set_window, seal5gs, seal_opaque, seal_initial, open5gs, seal_eps, open_eps, make_n1_to_s1, verify_n1_to_s1, make_s1_to_n1, verify_s1_to_n1, reselect, Outcome, outcome, first_of, second_of, gives, makes, used_by, context_after, counts_used}
 use Rattle.promises.specs.Words.{record_of, TakenAs}
 use Rattle.promises.specs.Demand2.{Estimates}
 use Rattle.promises.specs.Demand3.{fresh as begun, NeverTo, Demand3, Fresh, StillOpen, Opens, Keeps}
-use Rattle.promises.specs.Tightness.{AnswerOf, Meets, OnlyOne, RefusesAll, OpensAsNext, LeavesStill, Invents, NeverLate, AsInP6, p6_calls, Tightness}
-use Rattle.promise.proofs.Acts.{same_keys}
+use Rattle.promises.specs.Tightness.{AnswerOf, Meets, OnlyOne, RefusesAll, OpensAsNext, LeavesStill, NeverLate, AsInP6, p6_calls, Tightness}
 use Rattle.promises.proofs.Shapes.{does, acts}
 use Rattle.promises.proofs.Soundness.{does-valid, own-after}
 use Rattle.promises.proofs.Passing.{passes, gives-passed}
@@ -238,6 +237,7 @@ module _ (G : Call → Context → Outcome) (keeps : Keeps G) where
     where
       not_five : In 3 (5 ∷ []) → ⊥
       not_five (inl h) = omega arith
+      not_five (inr x'') = elim x'' [ ]
 
 -- a candidate of the COUNT rule that is the next COUNT ends as the message does
 late_below : (size : ℕ) (r : Record) (s : ℕ) → late_of 8 size r s ≡ At r.next → ⊥
@@ -316,6 +316,7 @@ module _ (x : Context) (f : Fresh x) where
     where
       unused : In c (5 ∷ []) → ⊥
       unused (inl e) = omega arith
+      unused (inr x'') = elim x'' [ ]
 
 -- NEA2 changes an octet: AES of the zero block under the zero key begins with 66
 changes : nea2_of zeros 0 0 0 (0 ∷ []) ≡ 0x66 ∷ []

@@ -1,12 +1,12 @@
 #!/bin/sh
 # Has tshark (Debian) dissect messages that the program sealed, as NAS-5GS and NAS-EPS, and compares header type, sequence
-# number and, where nothing is ciphered, the inner message's type. From the repository's root, after `rt check nas_hex`.
+# number and, where nothing is ciphered, the inner message's type. From the repository's root, after `rt run < /dev/null` in crates/nas_hex.
 set -eu
 root=$(cd "$(dirname "$0")/.." && pwd)
 work=$root/target/capture
 mkdir -p "$work"
 python3 "$root/differential/capture.py" lines > "$work/lines"
-"$root/target/bin/nas_hex" < "$work/lines" > "$work/answers"
+"$root/crates/nas_hex/out/nas_hex" < "$work/lines" > "$work/answers"
 python3 "$root/differential/capture.py" pcap "$work/lines" "$work/answers" "$work/sealed"
 # dissect SYSTEM DISSECTOR LINK-TYPE FIELD..
 dissect() {

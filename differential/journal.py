@@ -6,7 +6,7 @@
   journal.py damage SEED < JOURNAL   a damaged copy
   journal.py items < JOURNAL     the stretches and calls themselves, one to a line
   journal.py check               the page's example, and random journals written, damaged and read
-  journal.py run SEED NUMBER     so many random sessions to the programs journal_write and journal_read (target/bin), compared
+  journal.py run SEED NUMBER     so many random sessions to the programs journal_write and journal_read (crates/NAME/out), compared
   journal.py sample              the fixed samples: stdin and stdout of crates/journal_write and crates/journal_read
 """
 import pathlib
@@ -238,10 +238,10 @@ def told(answers):
 
 
 def compared(seed, number):
-    pick, root = random.Random(seed), pathlib.Path(__file__).parent.parent / "target/bin"
+    pick, root = random.Random(seed), pathlib.Path(__file__).parent.parent / "crates"
 
     def program(name, octets):
-        done = subprocess.run([root / name], input=octets, capture_output=True, check=True)
+        done = subprocess.run([root / name / "out" / name], input=octets, capture_output=True, check=True)
         return done.stdout, done.stderr.decode()
     for k in range(number):
         lines = list(session(pick.randrange(1 << 30), pick.choice((5, 20, 60))))

@@ -4,7 +4,7 @@
 #
 #   host/check.sh
 #
-# The library is target/staticlib/libnas_c.a, made by `rt staticlib nas_c` where it is missing, or the one in the folder that
+# The library is crates/nas_c/out/libnas_c.a, made by `rt lib` in crates/nas_c where it is missing, or the one in the folder that
 # SAIHDELU_LIB names. Debian packages: gcc, g++, binutils, libssl-dev, cargo, python3-cryptography.
 set -eu
 root=$(cd "$(dirname "$0")/.." && pwd)
@@ -16,8 +16,8 @@ say() { printf '%s\n' "$*"; }
 fail() { say "FAILED: $*"; exit 1; }
 
 if [ -z "${SAIHDELU_LIB:-}" ]; then
-    SAIHDELU_LIB=$root/target/staticlib
-    [ -f "$SAIHDELU_LIB/libnas_c.a" ] || rt staticlib nas_c
+    SAIHDELU_LIB=$root/crates/nas_c/out
+    [ -f "$SAIHDELU_LIB/libnas_c.a" ] || (cd crates/nas_c && rt lib)
 fi
 SAIHDELU_LIB=$(cd "$SAIHDELU_LIB" && pwd)
 export SAIHDELU_LIB
@@ -51,12 +51,12 @@ say "C: demo, $(wc -l < "$work/demo.out") lines (target/host/demo.out): $(tail -
 python3 differential/journal.py read < "$work/calls" > "$work/replayed" || fail "differential/journal.py"
 cmp -s "$work/answers" "$work/replayed" || { diff "$work/answers" "$work/replayed" | cut -c 1-200; fail "the Python reading answers otherwise"; }
 say "C: journal, $(wc -l < "$work/answers") calls in $(wc -c < "$work/calls") octets; the Python reading replays them with the same answers"
-if [ -x target/bin/journal_read ]; then
-    target/bin/journal_read < "$work/calls" > "$work/replayed"
+if [ -x crates/journal_read/out/journal_read ]; then
+    crates/journal_read/out/journal_read < "$work/calls" > "$work/replayed"
     cmp -s "$work/answers" "$work/replayed" || { diff "$work/answers" "$work/replayed" | cut -c 1-200; fail "journal_read answers otherwise"; }
     say "C: journal_read replays the journal with the same answers"
 else
-    say "C: not run: journal_read (\`rt check journal_read\` makes target/bin/journal_read)"
+    say "C: not run: journal_read (\`rt run < /dev/null\` in crates/journal_read makes it)"
 fi
 
 export CARGO_TARGET_DIR="$work/cargo"

@@ -3,5 +3,5 @@
 set -eu
 root=$(cd "$(dirname "$0")/.." && pwd)
 cd "$root"
-rt check nas_hex
-target/bin/nas_hex < session/lines | paste -d '\n' session/lines -
+(cd crates/nas_hex && rt run < /dev/null >&2)
+crates/nas_hex/out/nas_hex < session/lines | paste -d '\n' session/lines -

@@ -1,4 +1,4 @@
-//! SAIHDELU is the folder of libnas_c.a, which `rt staticlib nas_c` writes.
+//! SAIHDELU is the folder of libnas_c.a, which `rt lib` in crates/nas_c writes.
 fn main() {
     let folder = std::env::var("SAIHDELU").expect("SAIHDELU: the folder of libnas_c.a");
     println!("cargo:rerun-if-env-changed=SAIHDELU");

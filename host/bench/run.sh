@@ -1,12 +1,12 @@
 #!/bin/sh
 # Builds the bench and runs the whole measurement: the tables on standard output and in docs/PERFORMANCE.md, the plot in docs/speed.svg.
-#   host/bench/run.sh [LIBRARY [TEXT]]   LIBRARY is libnas_c.a; target/staticlib/libnas_c.a, which `rt staticlib nas_c` writes, by default
+#   host/bench/run.sh [LIBRARY [TEXT]]   LIBRARY is libnas_c.a; crates/nas_c/out/libnas_c.a, which `rt lib` in crates/nas_c writes, by default
 #                                        TEXT has the original's src/common/security.rs and so on; ../shared/docs/src by default
 # ROUNDS=n in the environment (100 by default): five batches of each call and candidate in each, of which the least counts.
 set -eu
 here=$(cd "$(dirname "$0")" && pwd)
 root=$(cd "$here/../.." && pwd)
-library=$(realpath "${1:-$root/target/staticlib/libnas_c.a}")
+library=$(realpath "${1:-$root/crates/nas_c/out/libnas_c.a}")
 text=$(realpath "${2:-$root/../shared/docs/src}")
 rounds=${ROUNDS:-100}
 build=$root/target/bench

@@ -1,6 +1,6 @@
 /* Saihdelu: the NAS security contexts of 5GS and of EPS, for C11 and C++11.
 
-   Link libnas_c.a (`rt staticlib nas_c` writes target/staticlib/libnas_c.a). x86-64 Linux, System V calls. docs/HOST.md is
+   Link libnas_c.a (`rt lib` in crates/nas_c writes crates/nas_c/out/libnas_c.a). x86-64 Linux, System V calls. docs/HOST.md is
    the page for hosts.
 
    What holds of every function here:

@@ -1,5 +1,6 @@
 // AES-128 (FIPS 197) by a table: one block, two side by side, and the key expansion. Only crate `aes` calls what has a `requires`.
 #![tactic(auto)]
+
 mod cipher;
 mod columns;
 mod expansion;

@@ -1,5 +1,6 @@
 // A record of COUNTs, as document 01's COUNT rule has it: what may come next, and what a use or a new window size makes of it.
 #![tactic(auto)]
+
 ghost use Rattle.std.specs.Prelude.{◌≡◌, ◌+◌, ◌-◌, ◌*◌, ◌%◌, ◌^◌, ◌≤◌, ◌<◌, min};
 ghost use Rattle.count.specs.Rule.{exhausted, bit, distance, forward_of, late_of, distance_of, former_highest, use_forward, use_round, use_late, resize_of};
 

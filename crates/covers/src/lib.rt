@@ -1,6 +1,7 @@
 // Every public call of the context again, with a contract in the words of the promises, proved from the call's own contract alone: a contract of nas_5gs that
 // says less breaks this crate.
 #![tactic(auto)]
+
 ghost use Rattle.std.specs.Prelude.{◌≡◌, []};
 ghost use Rattle.nas_5gs.specs.Leaves.{leaves, change_values, use_values, open_values, eps_open_values, octet_values, verify_values};
 ghost use Rattle.promises.specs.Calls.{set_window, seal5gs, seal_opaque, seal_initial, open5gs, seal_eps, open_eps, make_n1_to_s1, verify_n1_to_s1, make_s1_to_n1, verify_s1_to_n1, reselect, create, restore, next_count, window, integrity, ciphering, outcome, gives, second, makes, reads};

@@ -1,5 +1,6 @@
 // 5GS and EPS messages, initial messages with their container, and the S1-to-N1 container as octets, made and read with a context's keys.
 #![tactic(auto)]
+
 ghost use Rattle.std.specs.Prelude.{◌≡◌, ◌+◌, ◌-◌, ◌≤◌, length, drop};
 ghost use Rattle.nas_core.specs.Keyed.{payload};
 ghost use Rattle.nas_core.specs.Leaves.{read_as};

@@ -1,5 +1,6 @@
 // An EPS hex line parsed to one value: the call that it is, in numbers, with keys, next COUNTs and octets beside it.
 #![tactic(auto)]
+
 ghost use Rattle.std.specs.Prelude.{◌≡◌, length};
 ghost use Rattle.hex_lines.specs.Line.{written};
 ghost use Rattle.hex_eps_parse.specs.Lines.{counted, with_octets, line_of, octets_in};

@@ -1,5 +1,6 @@
 // Words, numbers and octets of hex lines, read from and written to lent slices. No line, however long or odd, is read or written out of bounds.
 #![tactic(auto)]
+
 mod print;
 mod read;
 

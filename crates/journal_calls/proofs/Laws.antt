@@ -1,7 +1,7 @@
 -- A call's bytes read as the call, keys and next COUNTs as themselves.
 use mathlib.Core.Path.{◌≡◌, refl, ap, sym, ◌∙◌}
 use mathlib.Core.List.{List, [], ◌∷◌, ◌++◌}
-use Prim.Native.Nat.{ℕ, ◌+◌, ◌*◌, ◌/◌, ◌%◌, ◌<◌, ◌≤◌}
+use Prim.Native.Nat.{ℕ, ◌+◌, ◌*◌, ◌/◌, ◌%◌, ◌≤◌}
 use native.Mathlib.Nat.{div-add-mod', div-div-eq-div-mul, mod-eq_of_lt}
 use native.Mathlib.Omega.{arith}
 use lib.ListN.{length, get_or, take, drop, length-append}
@@ -9,9 +9,9 @@ use lib.Seq.{take_at, drop_at, get_or-append-add}
 use borrow.Author.Tests.{le-leb}
 use Rattle.journal_calls.specs.declared.Call.{Call}
 use Rattle.journal_calls.specs.declared.Call.TheVariants.{Unknown, New, Restore, Reselect, Window, Seal, Opaque, Open, EpsSeal, EpsOpen, N1ToS1, VerifyN1ToS1, S1ToN1, VerifyS1ToN1, Initial}
-use Rattle.journal_calls.specs.Fields.{two, four, room_at, count_at, key_at, counts_in, counts_of}
+use Rattle.journal_calls.specs.Fields.{count_at, key_at, counts_in, counts_of}
 use Rattle.journal_calls.specs.Calls.{kind_of, front_of, call_of, rest_of}
-use Rattle.journal_calls.specs.Laws.{Places, Back, State, Laws}
+use Rattle.journal_calls.specs.Laws.{Places, Back, Laws}
 
 room : (n : ℕ) → n / 256 * 256 + n % 256 ≡ n
 room n = div-add-mod' n 256

@@ -1,5 +1,5 @@
 -- What holds of the calls: stated here, proved in proofs/Laws.antt.
-use Rattle.std.specs.Prelude.{ℕ, ◌<◌, ◌^◌, ◌≡◌, List, [], ◌∷◌, ◌++◌, length, get_or}
+use Rattle.std.specs.Prelude.{ℕ, ◌<◌, ◌≡◌, List, [], ◌∷◌, ◌++◌, length}
 use Rattle.journal_calls.specs.declared.Call.{Call}
 use Rattle.journal_calls.specs.declared.Call.TheVariants.{Unknown, New, Restore, Reselect, Window, Seal, Opaque, Open, EpsSeal, EpsOpen, N1ToS1, VerifyN1ToS1, S1ToN1, VerifyS1ToN1, Initial}
 use Rattle.journal_calls.specs.Fields.{key_at, counts_in, counts_of}

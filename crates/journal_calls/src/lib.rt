@@ -1,5 +1,6 @@
 // The calls of a journal as values: which call a record's bytes are, and a call's record written.
 #![tactic(auto)]
+
 ghost use Rattle.std.specs.Prelude.{◌≡◌, ◌∷◌, ◌++◌, ◌+◌, ◌*◌, ◌/◌, ◌%◌, ◌≤◌, ◌<◌, min, length, get_or, drop};
 ghost use Rattle.journal.specs.Write.{writes, write_of};
 ghost use Rattle.journal_calls.specs.Fields.{two, four, room_at, count_at, key_at, counts_in, counts_of};

@@ -1,5 +1,6 @@
 // Hex lines and the calls of a journal: the record of a line written, the line that a record's bytes are.
 #![tactic(auto)]
+
 ghost use Rattle.std.specs.Prelude.{◌≡◌, ◌++◌, ◌+◌, ◌/◌, ◌%◌, ◌<◌, min};
 ghost use Rattle.journal.specs.declared.Written.TheVariants as Written;
 ghost use Rattle.journal.specs.Write.{writes, write_of};

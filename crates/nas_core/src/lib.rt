@@ -1,5 +1,6 @@
 // What a 5GS and an EPS context share: keys, codes and size, the code of octets and their ciphering, and a record's COUNT verified and used.
 #![tactic(auto)]
+
 ghost use Rattle.std.specs.Prelude.{◌≡◌, true, false, cond, ◌++◌, ◌+◌, ◌-◌, ◌*◌, ◌≤◌, ◌<◌, length, take, drop, get_or};
 ghost use Rattle.count.specs.Rule.{exhausted, forward_of, late_of, try_forward};
 ghost use Rattle.refusals.specs.Order.{first};

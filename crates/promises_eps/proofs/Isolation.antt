@@ -60,6 +60,8 @@ module _ (k : Call) (x : Context) (on : place_in k < 2) where
       go : (a : Act) → Quiet a → (act a (record_of (place_in k) x)).size ≡ x.core.size
       go stay q = refl
       go (uses w c) q = refl
+      go (resize _) q = elim q [ ]
+      go close q = elim q [ ]
 
   keys-stay : SameKeys x.core (gives k x).context.core ⊎ Reselects k x → SameKeys x.core (gives k x).context.core
   keys-stay (inl s) = s

@@ -54,6 +54,10 @@ round-used : (a : Act) (s : State) (c : ℕ) → Round a → used a ≡ c ∷ []
 unfolding use_round
 round-used stay s c r e = let z : ◌≡◌ {A = ℕ} 0 1 = cc in absurd (omega arith)
 round-used (uses round n) s c r e = let q : n ≡ c = cc in rw q
+round-used (uses forward n) s c r e = elim r [ ]
+round-used (uses late n) s c r e = elim r [ ]
+round-used (resize _) s c r e = elim r [ ]
+round-used close s c r e = elim r [ ]
 
 -- the candidate that goes round, where every code passes
 round-found : (k : ℕ) (fit : ℕ → Bool) (s : State) (o : ℕ) → ((c : ℕ) → fit c ≡ true) → s.at.next < exhausted

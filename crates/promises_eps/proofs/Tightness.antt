@@ -10,22 +10,35 @@ use Rattle.count.specs.Run.{NoneTwice}
 use Rattle.nas_core.specs.Refusals.{unbuilt}
 use Rattle.nas_eps.specs.declared.Context.{Context}
 use Rattle.nas_eps.specs.declared.Direction.TheVariants.{Uplink}
+use Rattle.nas_eps.specs.Leaves.{change_values}
 use Rattle.nas_eps.specs.Changes.{context_with, new_of}
 use Rattle.nas_eps.specs.Octets.{service_request}
 use Rattle.promise.proofs.Acts.{same_keys}
-use Rattle.promises_eps.specs.Calls.{Call, set_window, reselect, seal_message, seal_request, open_message, create, restore, Outcome, context_after, counts_used}
+use Rattle.promises_eps.specs.Calls.{Call, set_window, reselect, seal_message, seal_request, open_message, Making, create, restore, Outcome, outcome, gives, makes, context_after, counts_used}
 use Rattle.promises_eps.specs.Words.{AnswersRequest}
 use Rattle.promises_eps.specs.Demand3.{fresh as begun, NeverTo, Fresh, Keeps}
-use Rattle.promises_eps.specs.Tightness.{OnlyOne, LeavesStill, here, Tightness}
+use Rattle.promises_eps.specs.Tightness.{values_of, left_of, made_of, OnlyOne, LeavesStill, here, Tightness}
 use Rattle.promises_eps.proofs.Taking.{request-is}
+
+-- the values of an answer are what the promises speak of
+values-given : (k : Call) (x : Context) → outcome (values_of k) (left_of k x) ≡ gives k x
+values-given (set_window n) x = refl
+values-given (reselect i c ik ck) x = refl
+values-given (seal_message t d inner out) x = refl
+values-given (seal_request i out) x = refl
+values-given (open_message d m out) x = refl
+
+values-made : (m : Making) → outcome change_values (made_of m) ≡ makes m
+values-made (create i c ik ck) = refl
+values-made (restore i c ik ck up down) = refl
 
 pub only_one : OnlyOne
 only_one =
     record {
       calls = λ k x l l' e f. e ∙ sym f;
       makings = λ m l l' e f. e ∙ sym f;
-      values = λ k x. elim k [ set_window n ↦ refl | reselect i c ik ck ↦ refl | seal_message t d inner out ↦ refl | seal_request i out ↦ refl | open_message d m out ↦ refl ];
-      made-values = λ m. elim m [ create i c ik ck ↦ refl | restore i c ik ck up down ↦ refl ];
+      values = values-given;
+      made-values = values-made;
     }
 
 -- a fresh context with integrity code 2

@@ -1,7 +1,6 @@
 -- Laws for the code: the blocks of a message, its length in bits.
 -- Assumes nothing.
-use Rattle.std.proofs.Common.{◌≡◌, ℕ, zero, suc, ◌+◌, ◌*◌, ◌/◌, ◌%◌, ◌^◌, ◌<◌, List, [], ◌∷◌, ◌++◌, map, length, get_or, take, drop, replicate, sym, refl, ap, ◌∙◌, arith, length-append, length-take, get_or-drop, get_or-take}
-use lib.ListN.{length-replicate}
+use Rattle.std.proofs.Common.{◌≡◌, ℕ, ◌+◌, ◌*◌, ◌%◌, ◌^◌, List, ◌++◌, map, get_or, take, drop, replicate, ap, ◌∙◌, arith, length-append, length-take, get_or-drop, get_or-take}
 use Rattle.aes.specs.Octets.{below, number}
 use Rattle.aes.proofs.Lists.{by-places}
 use Rattle.aes.proofs.Mac.{zeros-behind}

@@ -5,7 +5,6 @@ use Rattle.aes.specs.Laws.{Octets}
 use Rattle.streams.specs.Laws.{Laws}
 use Rattle.streams.proofs.Under.{octets-octets}
 use Rattle.streams.proofs.Ciphers.{cipher-length, cipher-octets, cipher-twice, cipher-prefix}
-use Rattle.snow3g.specs.declared.State.{State}
 use Rattle.snow3g.specs.Keystream.{step, start, keyword}
 use Rattle.snow3g.specs.Uea2.{key_words, cipher_iv, nea1_of}
 use Rattle.snow3g.specs.Uia2.{code_under, uia2_of, nia1_of}

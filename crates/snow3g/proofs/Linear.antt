@@ -1,6 +1,6 @@
 -- MUL64 by a fixed number p adds up: it may be done by parts of its other factor, of four bits each.
 -- Assumes nothing.
-use Rattle.std.proofs.Common.{◌≡◌, ℕ, zero, suc, ◌+◌, ◌-◌, ◌*◌, ◌/◌, ◌%◌, ◌^◌, ◌<◌, ◌≤◌, Bool, true, false, cond, eqb, ltb, List, [], ◌∷◌, map, get_or, sym, refl, ap, ◌∙◌, ap₂, add-zero, mod-lt, mod-eq_of_lt, one-mul, pow-suc, div-add-mod', zero-add, div-le_self, arith, lit<, pow_pos, pow-add, le-ltb, lt-ltb}
+use Rattle.std.proofs.Common.{◌≡◌, ℕ, zero, suc, ◌+◌, ◌-◌, ◌*◌, ◌/◌, ◌%◌, ◌^◌, ◌<◌, ◌≤◌, Bool, true, false, cond, eqb, List, [], ◌∷◌, get_or, sym, refl, ap, ◌∙◌, ap₂, add-zero, mod-lt, mod-eq_of_lt, one-mul, pow-suc, div-add-mod', zero-add, div-le_self, arith, lit<, pow_pos, pow-add, le-ltb, lt-ltb}
 use native.Mathlib.Nat.{div-div-eq-div-mul, mod-one, pow-succ'}
 use lib.Arith.{bin_ind, mod-mul}
 use lib.Pow.{pow-lt as two-pow-lt}

@@ -1,6 +1,6 @@
 -- What the fields and boxes make of octets are octets.
 -- Assumes nothing.
-use Rattle.std.proofs.Common.{◌≡◌, ℕ, zero, suc, ◌+◌, ◌-◌, ◌*◌, ◌/◌, ◌%◌, ◌<◌, Bool, true, false, cond, ltb, List, [], ◌∷◌, refl, mod-lt, arith, lit<, ltb-true}
+use Rattle.std.proofs.Common.{◌≡◌, ℕ, zero, suc, ◌-◌, ◌*◌, ◌/◌, ◌%◌, ◌<◌, Bool, true, false, cond, ltb, List, [], ◌∷◌, refl, mod-lt, arith, lit<, ltb-true}
 use lib.Bits.{bit_xor, xor_lt}
 use Rattle.streams.specs.Field.{mulx, times_bits, times}
 use Rattle.snow3g.specs.Field.{power_bits}

@@ -1,11 +1,11 @@
 -- Words by their octets: exclusive or, turning, and the boxes S1 and S2 from their tables.
 -- Assumes nothing.
-use Rattle.std.proofs.Common.{◌≡◌, ℕ, ◌+◌, ◌*◌, ◌/◌, ◌%◌, ◌^◌, ◌<◌, List, map, get_or, sym, refl, ap, ◌∙◌, ap₂, arith, lit<}
+use Rattle.std.proofs.Common.{◌≡◌, ℕ, ◌+◌, ◌*◌, ◌^◌, ◌<◌, List, map, get_or, ap, ◌∙◌, ap₂, arith, lit<}
 use lib.Bits.{bit_xor, xor_lt, xor_block}
 use Rattle.aes.specs.Octets.{below}
 use Rattle.aes.proofs.Octets.{sbox-octet}
 use Rattle.aes.proofs.Tables.{table_at}
-use Rattle.snow3g.specs.Words.{word, octet0, octet1, octet2, octet3, xor4}
+use Rattle.snow3g.specs.Words.{word, octet0, octet1, octet2, octet3}
 use Rattle.streams.specs.Field.{mulx}
 use Rattle.snow3g.specs.Boxes.{sr, sq, mix, s1, s2}
 use Rattle.snow3g.specs.Tables.{column, s1_table, s2_table, turn8, turn16, turn24, joined, by_table}

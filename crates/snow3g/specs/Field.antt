@@ -1,6 +1,6 @@
 -- Document 2 (TS 35.216) 3.1 and 3.4: octets as fields of 2^8 elements, in which x^8 = c, and the words of MULalpha and DIValpha.
 -- Assumes nothing.
-use Rattle.std.specs.Prelude.{ℕ, zero, suc, ◌+◌, ◌*◌, ◌/◌, ◌%◌, cond, nat_lt}
+use Rattle.std.specs.Prelude.{ℕ, zero, suc, ◌/◌, ◌%◌, cond, nat_lt}
 use Rattle.streams.specs.Field.{mulx, times}
 use Rattle.snow3g.specs.Words.{word}
 

@@ -1,6 +1,6 @@
 -- The law of specs/Laws.antt: cells stay from 1 to p.
 -- Assumes nothing.
-use Rattle.std.proofs.Common.{◌≡◌, ℕ, zero, suc, ◌+◌, ◌-◌, ◌*◌, ◌/◌, ◌%◌, ◌^◌, ◌<◌, ◌≤◌, Bool, true, false, cond, eqb, List, [], ◌∷◌, ◌++◌, map, get_or, sym, refl, ap, ◌∙◌, mod-lt, arith, lit<}
+use Rattle.std.proofs.Common.{◌≡◌, ℕ, zero, suc, ◌+◌, ◌-◌, ◌*◌, ◌/◌, ◌%◌, ◌^◌, ◌<◌, ◌≤◌, Bool, true, false, cond, eqb, List, [], ◌∷◌, map, get_or, refl, ◌∙◌, mod-lt, arith, lit<}
 use native.Mathlib.Decide.{dec_lt}
 use lib.ListN.{get_or-append}
 use borrow.Author.Tests.{eqb-false}

@@ -4,7 +4,6 @@ use Rattle.std.proofs.Common.{◌≡◌, ℕ, zero, suc, refl, ap}
 use Rattle.streams.specs.Stream.{after}
 use Rattle.zuc.specs.declared.State.{State}
 use Rattle.zuc.specs.declared.Window.{Window}
-use Rattle.zuc.specs.Keystream.{work, word}
 use Rattle.zuc.specs.Windows.{window_at, moved}
 
 -- n words on

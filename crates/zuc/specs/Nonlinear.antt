@@ -1,6 +1,6 @@
 -- Document 2 (TS 35.222) 3.3 and 3.4: the bit reorganisation, and F.
 -- Assumes nothing.
-use Rattle.std.specs.Prelude.{ℕ, ◌+◌, ◌*◌, ◌/◌, ◌%◌, ◌^◌, List, [], ◌∷◌, bit_xor, slice_index}
+use Rattle.std.specs.Prelude.{ℕ, ◌/◌, ◌%◌, ◌^◌, List, [], ◌∷◌, bit_xor, slice_index}
 use Rattle.aes.specs.Octets.{number}
 use Rattle.zuc.specs.declared.State.{State}
 use Rattle.zuc.specs.Words.{joined, sum, turned}

@@ -1,14 +1,10 @@
-use mathlib.Core.Path.{ap, sym, ◌∙◌}
-use mathlib.Core.Logic.{⊎_elim}
-use mathlib.Core.List.{List, ◌++◌}
-use Prim.Native.Nat.{ℕ}
-use lib.ListN.{length, take, drop}
-use Rattle.aes.proofs.Parts.{behind, same_length, short}
+use Rattle.std.proofs.Common.{◌≡◌, ℕ, List, ◌++◌, length, take, drop, ap, sym, ◌∙◌}
+use Rattle.aes.proofs.Parts.{behind, short}
 use Rattle.algorithms.specs.Codes.{code_of, cipher_of}
 use Rattle.algorithms.proofs.Laws.{cipher-length}
 use Rattle.algorithms.proofs.Tests.{twos}
-use borrow.Author.Rules.{rules}
 use Rattle.algorithms.proofs.protect.Goals as goal
+use Rattle.algorithms.proofs.protect.Goals.{then-octets-gt1, else-octets-gt1}
 
 pub returns-then-are_aes : goal.returns-then-are_aes
 unfolding code_of cipher_of
@@ -17,17 +13,13 @@ returns-then-are_aes c =
     let m = a.octets.now in
     let e = twos a.integrity a.ciphering (sym c.are_aes.ensures ∙ c.if-are_aes.true) in record { ciphered = c.protect2.ensures.ciphered ∙ sym (ap (λ (n : ℕ). take 1 m ++ cipher_of n a.ciphering_key a.count a.bearer a.direction (drop 1 m)) e.1); code = c.protect2.ensures.code ∙ sym (ap (λ (n : ℕ). code_of n a.integrity_key a.count a.bearer a.direction c.protect2.new.m) e.0) }
 
-pub returns : goal.returns
-returns c =
+pub returns-clause-ciphered : goal.returns-clause-ciphered
+returns-clause-ciphered c =
     let a = c.args in
     let m = a.octets.now in
-    let f : (List ℕ → List ℕ) = λ l. cipher_of a.ciphering a.ciphering_key a.count a.bearer a.direction l in record { ciphered = ⊎_elim
-          (λ w. w.5 ∙ behind 1 m _ f w.2.ensures)
-          (λ w. w.1 ∙ short f (λ l. cipher-length a.ciphering a.ciphering_key a.count a.bearer a.direction l) m w.0.left) c.if-octets-gt1.branch; code = c.code.ensures }
-
-pub shape_of-octets : goal.shape_of-octets
-shape_of-octets c =
-    let a = c.args in
-    ap length (returns-2 c).0 ∙
-    same_length (λ (l : List ℕ). cipher_of a.ciphering a.ciphering_key a.count a.bearer a.direction l)
-    (λ l. cipher-length a.ciphering a.ciphering_key a.count a.bearer a.direction l) a.octets.now
+    let f : (List ℕ → List ℕ) = λ l. cipher_of a.ciphering a.ciphering_key a.count a.bearer a.direction l in
+    let sized : ((l : List ℕ) → length (f l) ≡ length l) = λ l. cipher-length a.ciphering a.ciphering_key a.count a.bearer a.direction l in
+    elim c.if-octets-gt1.branch [
+      | then-octets-gt1 w ↦ w.octets-is ∙ behind 1 m _ f w.cipher.ensures
+      | else-octets-gt1 w ↦ w.octets-is ∙ short f sized m w.if-octets-gt1.false
+    ]

@@ -2,7 +2,6 @@ use mathlib.Core.Path.{refl}
 use Rattle.count.specs.Rule.{bit}
 use native.Mathlib.Nat.{div-eq_of_lt, lt_of_lt_of_le}
 use lib.Pow.{pow_mono}
-use borrow.Author.Rules.{rules}
 use Rattle.count.proofs.bit_at.Goals as goal
 
 pub returns-then-k-lt64 : goal.returns-then-k-lt64

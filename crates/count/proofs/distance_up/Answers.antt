@@ -3,7 +3,6 @@ use Prim.Native.Nat.{ℕ, ◌+◌, ◌-◌, ◌%◌, ◌^◌, ◌<◌}
 use native.Mathlib.Nat.{mod-lt, mod-add-mod}
 use native.Mathlib.Omega.{arith}
 use Rattle.count.specs.Rule.{distance}
-use borrow.Author.Rules.{rules}
 use Rattle.count.proofs.distance_up.Goals.{After-reach-m}
 use Rattle.count.proofs.distance_up.Goals as goal
 

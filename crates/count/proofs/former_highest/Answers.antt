@@ -1,7 +1,6 @@
 use Rattle.count.specs.Rule.{former_highest}
 use borrow.Author.Tests.{eq-eqb, ne_eqb}
 use native.Mathlib.Nat.{one-mul}
-use borrow.Author.Rules.{rules}
 use Rattle.count.proofs.former_highest.Goals as goal
 
 pub returns-then-next-eq0 : goal.returns-then-next-eq0

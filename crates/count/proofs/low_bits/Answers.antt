@@ -3,7 +3,6 @@ use native.Mathlib.Omega.{arith}
 use Rattle.count.proofs.Words.{one_up}
 use Prim.Native.Nat.{ℕ, ◌-◌, ◌^◌}
 use lib.Pow.{pow_pos}
-use borrow.Author.Rules.{rules}
 use Rattle.count.proofs.low_bits.Goals as goal
 
 pub overflow_sub-result : goal.overflow_sub-result

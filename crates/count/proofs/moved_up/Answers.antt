@@ -1,6 +1,5 @@
 use mathlib.Core.Path.{sym}
 use Rattle.count.proofs.Words.{no-low}
-use borrow.Author.Rules.{rules}
 use Rattle.count.proofs.moved_up.Goals as goal
 
 pub returns-else-places-lt64 : goal.returns-else-places-lt64

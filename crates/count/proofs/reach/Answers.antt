@@ -3,7 +3,6 @@ use Prim.Native.Nat.{◌*◌, ◌%◌, ◌^◌, ◌≤◌}
 use native.Mathlib.Nat.{one-mul, mod-eq_of_lt}
 use native.Mathlib.Omega.{arith}
 use lib.Pow.{pow_pos, pow_mono}
-use borrow.Author.Rules.{rules}
 use Rattle.count.proofs.reach.Goals as goal
 
 pub returns : goal.returns

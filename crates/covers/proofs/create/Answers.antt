@@ -1,12 +1,7 @@
 use mathlib.Core.Path.{ap}
-use borrow.Author.Rules.{rules}
 use Rattle.nas_5gs.specs.Leaves.{change_values}
 use Rattle.promises.specs.Calls.{outcome}
 use Rattle.covers.proofs.create.Goals as goal
-
-pub new-requires : goal.new-requires
-new-requires c =
-    search rules
 
 pub returns : goal.returns
 returns c =

@@ -1,5 +1,4 @@
 use mathlib.Core.Path.{ap}
-use borrow.Author.Rules.{rules}
 use Rattle.nas_5gs.specs.Leaves.{open_values}
 use Rattle.promises.specs.Calls.{outcome, first_of, second_of}
 use Rattle.covers.proofs.open_5gs.Goals as goal

@@ -1,5 +1,4 @@
 use mathlib.Core.Path.{ap}
-use borrow.Author.Rules.{rules}
 use Rattle.promises_handover.specs.Handover.{outcome_of, connection_of, beside_of}
 use Rattle.covers.proofs.open_across.Goals as goal
 

@@ -1,12 +1,7 @@
 use mathlib.Core.Path.{ap}
-use borrow.Author.Rules.{rules}
 use Rattle.nas_5gs.specs.Leaves.{change_values}
 use Rattle.promises.specs.Calls.{outcome}
 use Rattle.covers.proofs.restore.Goals as goal
-
-pub restore-requires : goal.restore-requires
-restore-requires c =
-    search rules
 
 pub returns : goal.returns
 returns c =

@@ -1,16 +1,7 @@
 use mathlib.Core.Path.{ap}
-use borrow.Author.Rules.{rules}
 use Rattle.nas_5gs.specs.Leaves.{use_values}
 use Rattle.promises.specs.Calls.{outcome}
 use Rattle.covers.proofs.seal_eps.Goals as goal
-
-pub seal_eps-requires : goal.seal_eps-requires
-seal_eps-requires c =
-    search rules
-
-pub shape_of-out : goal.shape_of-out
-shape_of-out c =
-    search rules
 
 pub returns : goal.returns
 returns c =

@@ -1,12 +1,7 @@
 use mathlib.Core.Path.{ap}
-use borrow.Author.Rules.{rules}
 use Rattle.nas_5gs.specs.Leaves.{verify_values}
 use Rattle.promises.specs.Calls.{outcome}
 use Rattle.covers.proofs.verify_n1_to_s1.Goals as goal
-
-pub verify_n1_to_s1_container-requires : goal.verify_n1_to_s1_container-requires
-verify_n1_to_s1_container-requires c =
-    search rules
 
 pub returns : goal.returns
 returns c =

@@ -15,7 +15,7 @@ back c = c.copy.new.dst
 
 -- as many octets came back as the inner message has
 many : (c : After-copy) → length (back c) ≡ length c.args.inner.now
-many c = c.copy.auto.1.0 ∙ simp (length-take, length-drop) (omega (arith, c.requires))
+many c = c.copy.auto.dst ∙ simp (length-take, length-drop) (omega (arith, c.requires))
 
 pub slice_bounds-wrap-end-2 : goal.slice_bounds-wrap-end-2
 slice_bounds-wrap-end-2 c =

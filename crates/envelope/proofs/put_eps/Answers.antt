@@ -9,22 +9,22 @@ use Rattle.nas_core.proofs.Keys.{protected-length}
 use Rattle.nas_core.specs.Keyed.{protected}
 use Rattle.envelope.specs.Eps.{eps_message}
 use borrow.Author.Rules.{rules}
-use Rattle.envelope.proofs.put_eps.Goals.{After-copy, After-protect}
+use Rattle.envelope.proofs.put_eps.Goals.{After-protect}
 use Rattle.envelope.proofs.put_eps.Goals as goal
 
 -- as many octets came back as the inner message has
-many : (c : After-copy) → length c.copy.new.dst ≡ length c.args.inner.now
-many c = c.copy.auto.1.0 ∙ simp (length-take, length-drop) (omega arith)
+many : (c : After-protect) → length c.copy.new.dst ≡ length c.args.inner.now
+many c = c.copy.auto.dst ∙ simp (length-take, length-drop) (omega arith)
 
 -- the list with the payload in its place, as long as it was
-abbrev filled : After-copy → List ℕ
+abbrev filled : After-protect → List ℕ
 filled c = put_mid 6 ((6 + length c.args.inner.now) - 6) c.args.out.now c.copy.new.dst
 
 whole : (c : After-protect)
     → length (put_mid 1 ((6 + length c.args.inner.now) - 1) (filled c) c.protect.new.body)
     ≡ length c.args.out.now
 whole c =
-    same_len_mid 1 ((6 + length c.args.inner.now) - 1) (filled c) c.protect.new.body c.protect.auto.1.1.1.1.0
+    same_len_mid 1 ((6 + length c.args.inner.now) - 1) (filled c) c.protect.new.body c.protect.auto.body
     ∙ mid-length 1 6 _ _ c.args.out.now c.copy.new.dst refl refl c.requires (many c)
 
 pub shape_of-out : goal.shape_of-out
@@ -39,5 +39,5 @@ returns c =
     let plain = c.args.inner.now in
     let made = protected c.args.core c.args.count 1 0 plain in
     let sent : ys ≡ plain = c.copy.ensures in
-    let z : c.protect.new.body ≡ made = c.protect.ensures ∙ ap (λ (l : List ℕ). protected c.args.core c.args.count 1 0 l) (inside 1 6 (6 + n) n c.args.out.now ys refl refl c.requires (many (goal.at.returns c).After-copy) ∙ sent) in
-    sealed 1 6 (6 + n) n c.args.out.now ys refl refl c.requires (many (goal.at.returns c).After-copy) (0x17 ∷ []) _ made refl z (omega (arith, protected-length c.args.core c.args.count 1 0 plain))
+    let z : c.protect.new.body ≡ made = c.protect.ensures ∙ ap (λ (l : List ℕ). protected c.args.core c.args.count 1 0 l) (inside 1 6 (6 + n) n c.args.out.now ys refl refl c.requires (many (goal.at.returns c).After-protect) ∙ sent) in
+    sealed 1 6 (6 + n) n c.args.out.now ys refl refl c.requires (many (goal.at.returns c).After-protect) (0x17 ∷ []) _ made refl z (omega (arith, protected-length c.args.core c.args.count 1 0 plain))

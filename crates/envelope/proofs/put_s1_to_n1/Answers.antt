@@ -25,7 +25,7 @@ put_code-requires c =
 
 pub shape_of-out : goal.shape_of-out
 shape_of-out c =
-    c.put_code.auto.1.0 ∙ simp length-set
+    c.put_code.auto.body ∙ simp length-set
 
 pub returns : goal.returns
 unfolding s1_to_n1

@@ -26,6 +26,9 @@ returns c =
     let a = c.args in
     let m = a.message.now in
     let n = length m - 7 in
-    let plain : (Bool → ℕ → List ℕ) = λ t k. payload a.core t k a.bearer a.direction (drop 7 m) in record { opening = c.verify.ensures.opening; plain = front_read (plain (ciphers a.header_type)) n a.out.now _ c.verify.result
+    let plain : (Bool → ℕ → List ℕ) = λ t k. payload a.core t k a.bearer a.direction (drop 7 m) in record {
+      opening = c.verify.ensures.opening;
+      plain = front_read (plain (ciphers a.header_type)) n a.out.now _ c.verify.result
           (λ k. payload-length a.core k a.bearer a.direction (drop 7 m) (ciphers a.header_type) ∙ length-drop 7 m)
-          (c.verify.ensures.read ∙ ap (λ (t : Bool). read_as (plain t) (take n a.out.now) c.verify.result) c.is_ciphering-ciphered.ensures) }
+          (c.verify.ensures.read ∙ ap (λ (t : Bool). read_as (plain t) (take n a.out.now) c.verify.result) c.is_ciphering-ciphered.ensures);
+    }

@@ -2,7 +2,6 @@ use mathlib.Core.Path.{sym, ap, ◌∙◌}
 use Rattle.hex_parse.proofs.Laws as laws
 use borrow.Author.Tests.{eq-eqb, ne_eqb}
 use Rattle.hex_eps_parse.specs.Lines.{counted, with_octets}
-use borrow.Author.Rules.{rules}
 use Rattle.hex_eps_parse.proofs.with_octets.Goals as goal
 
 pub returns-then-text-eq0 : goal.returns-then-text-eq0
@@ -17,8 +16,7 @@ returns-then-is_none c =
 
 pub returns : goal.returns
 unfolding with_octets
-returns c =
-    (
+returns c = (
   simp (ne_eqb _ _ c.if-text-eq0.false, sym c.is_none.ensures ∙ c.if-is_none.false) (c.counted.ensures ∙ ap (counted c.args.line) c.decode-decoded.ensures.0),
   c.decode-decoded.ensures.1,
 )

@@ -1,4 +1,3 @@
-use borrow.Author.Rules.{rules}
 use Rattle.hex_parse.proofs.counted.Goals as goal
 
 pub returns-in-Bad : goal.returns-in-Bad

@@ -1,6 +1,5 @@
 use borrow.Author.Tests.{eq-eqb, ne_eqb}
 use Rattle.hex_parse.specs.Lines.{is_none}
-use borrow.Author.Rules.{rules}
 use Rattle.hex_parse.proofs.is_none.Goals as goal
 
 pub returns-then-text-ne1 : goal.returns-then-text-ne1

@@ -1,5 +1,4 @@
 use Rattle.hex_parse.proofs.Laws as laws
-use borrow.Author.Rules.{rules}
 use Rattle.hex_parse.proofs.parse.Goals as goal
 
 pub returns-then-from-eq0 : goal.returns-then-from-eq0

@@ -2,7 +2,6 @@ use mathlib.Core.Path.{sym, ap, ◌∙◌}
 use Rattle.hex_parse.proofs.Laws as laws
 use borrow.Author.Tests.{eq-eqb, ne_eqb}
 use Rattle.hex_parse.specs.Lines.{counted, with_octets}
-use borrow.Author.Rules.{rules}
 use Rattle.hex_parse.proofs.with_octets.Goals as goal
 
 pub returns-then-text-eq0 : goal.returns-then-text-eq0

@@ -1,5 +1,4 @@
 use Rattle.journal_calls.specs.Fields.{counts_in}
-use borrow.Author.Rules.{rules}
 use Rattle.journal_calls.proofs.counts.Goals as goal
 
 pub returns : goal.returns

@@ -1,6 +1,5 @@
 use Rattle.journal_calls.specs.Fields.{counts_of}
 use Rattle.journal_calls.proofs.Parts.{joined}
-use borrow.Author.Rules.{rules}
 use Rattle.journal_calls.proofs.counts_of.Goals as goal
 
 pub returns : goal.returns

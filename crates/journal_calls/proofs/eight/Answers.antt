@@ -1,5 +1,4 @@
 use Rattle.journal_calls.proofs.Parts.{joined}
-use borrow.Author.Rules.{rules}
 use Rattle.journal_calls.proofs.eight.Goals as goal
 
 pub returns : goal.returns

@@ -1,9 +1,9 @@
-use mathlib.Core.Path.{refl, ◌∙◌}
+use mathlib.Core.Path.{◌≡◌, ap, ◌∙◌}
+use Prim.Native.Nat.{ℕ, ◌+◌, ◌-◌}
 use native.Mathlib.Omega.{arith}
+use lib.ListN.{take, drop}
 use borrow.Author.Tests.{le-leb, lt-leb}
 use Rattle.journal_calls.specs.Fields.{key_at}
-use Rattle.journal_calls.proofs.Parts.{copied}
-use borrow.Author.Rules.{rules}
 use Rattle.journal_calls.proofs.key.Goals as goal
 
 pub returns-then-octets-end : goal.returns-then-octets-end
@@ -14,4 +14,7 @@ returns-then-octets-end c =
 pub returns : goal.returns
 unfolding key_at
 returns c =
-    copied c.args.octets.now c.copy.new.1.0 _ c.args.at 16 c.if-octets-end.false refl c.copy.ensures.1 ∙ simp (le-leb _ _ c.if-octets-end.false)
+    let m : (c.args.at + 16) - c.args.at ≡ 16 = omega arith in
+    c.copy_from_slice.ensures.after
+    ∙ ap (λ (k : ℕ). take k (drop c.args.at c.args.octets.now)) m
+    ∙ simp (le-leb _ _ c.if-octets-end.false)

@@ -1,11 +1,10 @@
 use mathlib.Core.Path.{◌≡◌, ap, ◌∙◌}
-use Prim.Native.Nat.{ℕ, ◌-◌}
+use Prim.Native.Nat.{◌-◌}
 use native.Mathlib.Omega.{arith}
 use lib.ListN.{length}
 use Rattle.journal_calls.specs.declared.Call.{Call}
 use Rattle.journal_calls.specs.Calls.{front_of, call_of, rest_of}
 use Rattle.journal_calls.proofs.Parts.{shown, none-shown}
-use borrow.Author.Rules.{rules}
 use Rattle.journal_calls.proofs.rest.Goals as goal
 
 pub returns-then-octets-at : goal.returns-then-octets-at

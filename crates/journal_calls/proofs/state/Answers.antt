@@ -1,6 +1,5 @@
 use mathlib.Core.Path.{refl}
 use Rattle.journal_calls.proofs.Parts.{joined}
-use borrow.Author.Rules.{rules}
 use Rattle.journal_calls.proofs.state.Goals as goal
 
 pub returns : goal.returns

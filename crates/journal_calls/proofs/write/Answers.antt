@@ -1,4 +1,3 @@
-use borrow.Author.Rules.{rules}
 use Rattle.journal_calls.proofs.write.Goals as goal
 
 pub returns-in-Unknown : goal.returns-in-Unknown

@@ -1,4 +1,3 @@
-use borrow.Author.Rules.{rules}
 use Rattle.journal_calls.proofs.write_initial.Goals as goal
 
 pub returns : goal.returns

@@ -1,6 +1,5 @@
 use borrow.Author.Tests.{eq-eqb, ne_eqb}
 use Rattle.journal_lines.specs.Lines.{access_of}
-use borrow.Author.Rules.{rules}
 use Rattle.journal_lines.proofs.access_of.Goals as goal
 
 pub returns-then-connection-eq1 : goal.returns-then-connection-eq1

@@ -1,4 +1,3 @@
-use borrow.Author.Rules.{rules}
 use Rattle.journal_lines.proofs.entry_of.Goals as goal
 
 pub returns-in-Bad : goal.returns-in-Bad

@@ -1,4 +1,3 @@
-use borrow.Author.Rules.{rules}
 use Rattle.journal_lines.proofs.keyed.Goals as goal
 
 pub returns : goal.returns

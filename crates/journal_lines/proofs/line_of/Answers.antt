@@ -1,5 +1,4 @@
 use Rattle.journal_lines.specs.Lines.{line_of}
-use borrow.Author.Rules.{rules}
 use Rattle.journal_lines.proofs.line_of.Goals as goal
 
 pub returns : goal.returns

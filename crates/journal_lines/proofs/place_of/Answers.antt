@@ -1,6 +1,5 @@
 use borrow.Author.Tests.{eq-eqb, ne_eqb}
 use Rattle.journal_lines.specs.Lines.{place_of}
-use borrow.Author.Rules.{rules}
 use Rattle.journal_lines.proofs.place_of.Goals as goal
 
 pub returns-then-direction-eq0 : goal.returns-then-direction-eq0

@@ -3,7 +3,6 @@ use Prim.Native.Nat.{ℕ, min}
 use Rattle.journal_lines.specs.declared.Behind.TheVariants.{Keys, State, Octets}
 use Rattle.journal_lines.specs.Lines.{entry_of, entry_in, written_of}
 use Rattle.journal_lines.proofs.Told.{told}
-use borrow.Author.Rules.{rules}
 use Rattle.journal_lines.proofs.write.Goals as goal
 
 pub returns-then-line : goal.returns-then-line

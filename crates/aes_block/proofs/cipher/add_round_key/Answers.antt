@@ -1,7 +1,6 @@
 use native.Mathlib.Nat.{add-zero}
 use Rattle.aes_block.specs.Cipher.{add_round_key}
 use Rattle.aes_block.proofs.Lists.{four-by}
-use borrow.Author.Rules.{rules}
 use Rattle.aes_block.proofs.cipher.add_round_key.Goals as goal
 
 pub returns : goal.returns

@@ -2,7 +2,6 @@ use mathlib.Core.Path.{ap, ◌∙◌}
 use Rattle.aes_block.specs.Cipher.{cipher}
 use Rattle.aes_block.proofs.Lengths.{cipher-length}
 use Rattle.aes_block.proofs.Rounds.{back}
-use borrow.Author.Rules.{rules}
 use Rattle.aes_block.proofs.cipher.encrypt_block.Goals as goal
 
 pub returns : goal.returns

@@ -1,7 +1,6 @@
 use mathlib.Core.Path.{sym}
 use Rattle.aes_block.proofs.Rows.{columns-four}
 use Rattle.aes_block.proofs.Rounds.{square, whole}
-use borrow.Author.Rules.{rules}
 use Rattle.aes_block.proofs.cipher.encrypt_state.Goals as goal
 
 pub returns : goal.returns

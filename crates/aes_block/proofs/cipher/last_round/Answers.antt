@@ -1,6 +1,5 @@
 use Rattle.aes_block.specs.Cipher.{add_round_key, shift_rows, sub_bytes}
 use Rattle.aes_block.proofs.Lists.{four-by}
-use borrow.Author.Rules.{rules}
 use Rattle.aes_block.proofs.cipher.last_round.Goals as goal
 
 pub returns : goal.returns

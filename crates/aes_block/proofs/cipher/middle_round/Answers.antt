@@ -1,7 +1,6 @@
 use native.Mathlib.Nat.{add-zero}
 use Rattle.aes_block.specs.Cipher.{add_round_key, mix_columns, shift_rows, sub_bytes}
 use Rattle.aes_block.proofs.Lists.{four-by}
-use borrow.Author.Rules.{rules}
 use Rattle.aes_block.proofs.cipher.middle_round.Goals as goal
 
 pub returns : goal.returns

@@ -1,4 +1,3 @@
-use borrow.Author.Rules.{rules}
 use Rattle.aes_block.proofs.cipher.mixed_column.Goals as goal
 
 pub returns : goal.returns

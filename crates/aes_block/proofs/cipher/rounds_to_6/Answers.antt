@@ -1,5 +1,4 @@
 use Rattle.aes_block.specs.Cipher.{rounds}
-use borrow.Author.Rules.{rules}
 use Rattle.aes_block.proofs.cipher.rounds_to_6.Goals as goal
 
 pub returns : goal.returns

@@ -1,6 +1,5 @@
 use mathlib.Core.Path.{refl}
 use Rattle.aes_block.specs.Cipher.{to_state}
-use borrow.Author.Rules.{rules}
 use Rattle.aes_block.proofs.cipher.to_state.Goals as goal
 
 pub returns : goal.returns

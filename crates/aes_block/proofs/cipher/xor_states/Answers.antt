@@ -2,7 +2,6 @@ use mathlib.Core.Path.{◌∙◌}
 use Rattle.aes_block.proofs.Lists.{four-by}
 use Rattle.aes_block.proofs.Rows.{columns-four}
 use Rattle.aes_block.proofs.Rounds.{xor-square}
-use borrow.Author.Rules.{rules}
 use Rattle.aes_block.proofs.cipher.xor_states.Goals as goal
 
 pub returns : goal.returns

@@ -1,6 +1,5 @@
 use Rattle.aes_block.proofs.Lists.{four-by}
 use Rattle.aes_block.proofs.Mix.{octet-0, octet-1, octet-2, octet-3}
-use borrow.Author.Rules.{rules}
 use Rattle.aes_block.proofs.columns.from_row_0.Goals as goal
 
 pub returns : goal.returns

@@ -1,6 +1,5 @@
 use Rattle.aes_block.specs.Field.{sbox}
 use Rattle.aes_block.proofs.Mix.{under-key, column}
-use borrow.Author.Rules.{rules}
 use Rattle.aes_block.proofs.columns.mixed_octets.Goals as goal
 
 pub returns : goal.returns

@@ -1,5 +1,4 @@
 use Rattle.aes_block.proofs.Mix.{octet-1}
-use borrow.Author.Rules.{rules}
 use Rattle.aes_block.proofs.columns.unmixed.Goals as goal
 
 pub returns : goal.returns

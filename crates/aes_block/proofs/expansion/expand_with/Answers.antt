@@ -1,5 +1,5 @@
 use mathlib.Core.Path.{◌≡◌, ◌∙◌, refl, sym}
-use Prim.Native.Nat.{◌≤◌, ◌<◌, ◌+◌, ◌*◌, ◌-◌}
+use Prim.Native.Nat.{◌<◌}
 use native.Mathlib.Omega.{arith}
 use native.Mathlib.Numerals.{add-one}
 use lib.ListN.{length, take, length-set}
@@ -27,8 +27,7 @@ loop-done-init c =
     (omega arith, omega arith, refl)
 
 pub loop-done-preserved : goal.loop-done-preserved
-loop-done-preserved c =
-    (
+loop-done-preserved c = (
   omega arith,
   simp length-set (omega arith),
   more _ c.loop-done.w _ c.loop-done.done (omega arith) c.next_word-t.type_inv.1.0.1 c.loop-done.invariant.2 c.next_word-t.ensures,

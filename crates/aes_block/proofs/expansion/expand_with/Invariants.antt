@@ -1,12 +1,7 @@
-use mathlib.Core.Path.{◌≡◌, ◌∙◌, refl, sym}
-use Prim.Native.Nat.{◌≤◌, ◌<◌, ◌+◌, ◌*◌, ◌-◌}
-use native.Mathlib.Omega.{arith}
-use native.Mathlib.Numerals.{add-one}
-use lib.ListN.{length, take, length-set}
-use lib.Seq.{take_all, take-suc, take-suc-set}
-use Rattle.aes_block.specs.Cipher.{expand_key, words}
-use Rattle.aes_block.proofs.Keys.{more}
-use borrow.Author.Rules.{rules}
+use mathlib.Core.Path.{◌≡◌}
+use Prim.Native.Nat.{◌≤◌, ◌+◌, ◌*◌, ◌-◌}
+use lib.ListN.{length, take}
+use Rattle.aes_block.specs.Cipher.{words}
 use Rattle.aes_block.proofs.expansion.expand_with.Given as goal
 
 abbrev pub invariant-loop-i : goal.invariant-loop-i

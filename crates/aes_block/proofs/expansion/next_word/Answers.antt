@@ -1,5 +1,4 @@
 use Rattle.aes_block.specs.Cipher.{next_word}
-use borrow.Author.Rules.{rules}
 use Rattle.aes_block.proofs.expansion.next_word.Goals as goal
 
 pub returns : goal.returns

@@ -1,7 +1,6 @@
 use mathlib.Core.List.{[], ◌∷◌}
 use lib.Dec.{lit<}
 use Rattle.aes_block.specs.Cipher.{add_round_key, shift_rows, sub_bytes}
-use borrow.Author.Rules.{rules}
 use Rattle.aes_block.proofs.pairs.two_last.Goals as goal
 
 pub returns : goal.returns

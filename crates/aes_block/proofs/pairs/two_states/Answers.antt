@@ -4,7 +4,6 @@ use Prim.Native.Nat.{ℕ}
 use Rattle.aes_block.specs.Cipher.{add_round_key, shift_rows, sub_bytes}
 use Rattle.aes_block.specs.Mix.{ended}
 use Rattle.aes_block.proofs.Rounds.{first, second}
-use borrow.Author.Rules.{rules}
 use Rattle.aes_block.proofs.pairs.two_states.Goals as goal
 
 pub returns : goal.returns

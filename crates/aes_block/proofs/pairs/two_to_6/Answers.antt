@@ -2,7 +2,6 @@ use mathlib.Core.Path.{◌≡◌, ap₂, ◌∙◌}
 use mathlib.Core.List.{◌++◌}
 use Rattle.aes_block.specs.Mix.{onward}
 use Rattle.aes_block.proofs.Rounds.{first, second, three}
-use borrow.Author.Rules.{rules}
 use Rattle.aes_block.proofs.pairs.two_to_6.Goals as goal
 
 pub returns : goal.returns

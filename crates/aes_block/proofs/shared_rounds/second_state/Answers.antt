@@ -1,5 +1,4 @@
 use Rattle.aes_block.specs.Mix.{two_rounds}
-use borrow.Author.Rules.{rules}
 use Rattle.aes_block.proofs.shared_rounds.second_state.Goals as goal
 
 pub returns : goal.returns

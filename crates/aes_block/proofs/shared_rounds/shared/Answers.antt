@@ -1,5 +1,4 @@
 use Rattle.aes_block.proofs.Sharing.{sharing}
-use borrow.Author.Rules.{rules}
 use Rattle.aes_block.proofs.shared_rounds.shared.Goals as goal
 
 pub returns : goal.returns

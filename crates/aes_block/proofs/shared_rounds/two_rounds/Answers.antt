@@ -1,5 +1,4 @@
 use Rattle.aes_block.specs.Cipher.{rounds}
-use borrow.Author.Rules.{rules}
 use Rattle.aes_block.proofs.shared_rounds.two_rounds.Goals as goal
 
 pub returns : goal.returns

@@ -1,6 +1,5 @@
 use native.Mathlib.Nat.{add-zero}
 use Rattle.aes_block.specs.Cipher.{word}
-use borrow.Author.Rules.{rules}
 use Rattle.aes_block.proofs.words.word_at.Goals as goal
 
 pub returns : goal.returns

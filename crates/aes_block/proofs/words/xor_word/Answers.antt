@@ -1,5 +1,4 @@
 use Rattle.aes_block.proofs.Lists.{xor-places}
-use borrow.Author.Rules.{rules}
 use Rattle.aes_block.proofs.words.xor_word.Goals as goal
 
 pub returns : goal.returns

@@ -3,7 +3,6 @@ use Prim.Native.Nat.{◌+◌, ◌-◌}
 use Rattle.count.specs.Rule.{use_forward, former_highest}
 use Rattle.count.proofs.Words.{or-moved}
 use Rattle.count.proofs.Bits.{former-lt}
-use borrow.Author.Rules.{rules}
 use Rattle.count.proofs.Record.advance.Goals as goal
 
 pub returns : goal.returns

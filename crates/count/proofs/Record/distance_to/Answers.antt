@@ -1,7 +1,6 @@
 use mathlib.Core.Path.{sym, ◌∙◌}
 use native.Mathlib.Omega.{arith}
 use Rattle.count.proofs.Skipped.{distance-ahead, distance-below, distance-round}
-use borrow.Author.Rules.{rules}
 use Rattle.count.proofs.Record.distance_to.Goals as goal
 
 pub returns-then-next-c : goal.returns-then-next-c

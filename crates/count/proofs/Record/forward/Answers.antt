@@ -1,7 +1,6 @@
 use mathlib.Core.Path.{sym, ◌∙◌}
 use native.Mathlib.Omega.{arith}
 use Rattle.count.proofs.Candidates.{forward-over, forward-up, forward-past}
-use borrow.Author.Rules.{rules}
 use Rattle.count.proofs.Record.forward.Goals as goal
 
 pub returns-then-next-ge-EXHAUSTED : goal.returns-then-next-ge-EXHAUSTED

@@ -1,6 +1,5 @@
 use mathlib.Core.Path.{refl}
 use Rattle.count.specs.Rule.{use_round}
-use borrow.Author.Rules.{rules}
 use Rattle.count.proofs.Record.go_round.Goals as goal
 
 pub returns : goal.returns

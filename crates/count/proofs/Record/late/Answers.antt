@@ -3,7 +3,6 @@ use Rattle.count.specs.Rule.{bit, distance}
 use mathlib.Core.Path.{◌≡◌, sym}
 use native.Mathlib.Omega.{arith}
 use Rattle.count.proofs.Candidates.{late-there, late-not}
-use borrow.Author.Rules.{rules}
 use Rattle.count.proofs.Record.late.Goals as goal
 
 pub returns-then-next-eq0 : goal.returns-then-next-eq0

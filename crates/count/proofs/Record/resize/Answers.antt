@@ -5,7 +5,6 @@ use native.Mathlib.Nat.{min-le_right}
 use lib.Pow.{pow_mono}
 use Rattle.count.specs.Rule.{resize_of}
 use Rattle.count.proofs.Words.{or-sized}
-use borrow.Author.Rules.{rules}
 use Rattle.count.proofs.Record.resize.Goals as goal
 
 pub overflow_sub-result : goal.overflow_sub-result

@@ -2,7 +2,6 @@ use native.Mathlib.Omega.{arith}
 use Prim.Native.Nat.{◌+◌, ◌-◌}
 use Rattle.count.specs.Rule.{use_late}
 use Rattle.count.proofs.Words.{one_up}
-use borrow.Author.Rules.{rules}
 use Rattle.count.proofs.Record.use_late.Goals as goal
 
 pub returns : goal.returns

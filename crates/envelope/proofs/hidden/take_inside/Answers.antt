@@ -23,7 +23,8 @@ handed p q ys out n e l y = (simp (e, l), simp (e, l, y))
 
 pub returns-then-value-lt3 : goal.returns-then-value-lt3
 returns-then-value-lt3 c =
-    refused _ _ _ (short c.args.core c.args.count c.args.bearer c.args.outer.now c.args.value.now c.requires.0 c.if-value-lt3.true)
+    let h = refused _ _ c.args.second.now (short c.args.core c.args.count c.args.bearer c.args.outer.now c.args.value.now c.requires.0 c.if-value-lt3.true) in
+    record { answer = h.0; wrote = h.1 }
 
 pub slice_bounds-fill-end-then-has_type : goal.slice_bounds-fill-end-then-has_type
 slice_bounds-fill-end-then-has_type c =
@@ -35,10 +36,12 @@ fill-requires c =
 
 pub returns-then-has_type : goal.returns-then-has_type
 returns-then-has_type c =
-    handed _ _ _ c.args.second.now _ (sym c.has_type.ensures ∙ c.if-has_type.true)
+    let h = handed _ _ _ c.args.second.now _ (sym c.has_type.ensures ∙ c.if-has_type.true)
     (sym (payload-length c.args.core c.args.count c.args.bearer 0 c.args.value.now true))
-    c.fill.ensures
+    c.fill.ensures in
+    record { answer = h.0; wrote = h.1 }
 
 pub returns : goal.returns
 returns c =
-    refused _ _ _ (sym c.has_type.ensures ∙ c.if-has_type.false)
+    let h = refused _ _ c.args.second.now (sym c.has_type.ensures ∙ c.if-has_type.false) in
+    record { answer = h.0; wrote = h.1 }

@@ -22,7 +22,7 @@ room : (c : After-put_outgoing) → 7 + size c ≤ length c.args.out.now
 room c = rw c.outer_length-end.ensures c.requires.2
 
 many : (c : After-put_outgoing) → length (back c) ≡ size c
-many c = c.put_outgoing.auto.1.1.1.1.0 ∙ simp (length-take, length-drop) (omega (arith, room c))
+many c = c.put_outgoing.auto.out ∙ simp (length-take, length-drop) (omega (arith, room c))
 
 pub slice_bounds-wrap-end-2 : goal.slice_bounds-wrap-end-2
 slice_bounds-wrap-end-2 c =

@@ -1,6 +1,5 @@
 use mathlib.Core.Path.{sym, ◌∙◌}
 use Rattle.hex_eps_parse.specs.Lines.{head_of, message_line}
-use borrow.Author.Rules.{rules}
 use Rattle.hex_eps_parse.proofs.heads.head.Goals as goal
 
 pub returns-then-begins : goal.returns-then-begins
@@ -16,9 +15,9 @@ returns-then-begins-2 c =
 pub returns-then-fits : goal.returns-then-fits
 unfolding head_of message_line
 returns-then-fits c =
-    simp (c.headed-then-fits.ensures, c.room-then-fits.ensures, c.slot-then-fits.ensures, c.octet-then-fits.ensures, sym c.fits2.ensures ∙ c.if-fits.true, sym c.begins-2.ensures ∙ c.if-begins-2.false, sym c.begins.ensures ∙ c.if-begins.false)
+    simp (c.headed-then-fits.ensures, c.room-then-fits.ensures, c.slot-then-fits.ensures, c.octet-then-fits.ensures, sym c.fits.ensures ∙ c.if-fits.true, sym c.begins-2.ensures ∙ c.if-begins-2.false, sym c.begins.ensures ∙ c.if-begins.false)
 
 pub returns : goal.returns
 unfolding head_of message_line
 returns c =
-    simp (c.change.ensures, sym c.fits2.ensures ∙ c.if-fits.false, sym c.begins-2.ensures ∙ c.if-begins-2.false, sym c.begins.ensures ∙ c.if-begins.false)
+    simp (c.change.ensures, sym c.fits.ensures ∙ c.if-fits.false, sym c.begins-2.ensures ∙ c.if-begins-2.false, sym c.begins.ensures ∙ c.if-begins.false)

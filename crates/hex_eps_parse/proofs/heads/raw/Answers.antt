@@ -1,5 +1,4 @@
 use Rattle.hex_eps_parse.specs.Lines.{raw_line}
-use borrow.Author.Rules.{rules}
 use Rattle.hex_eps_parse.proofs.heads.raw.Goals as goal
 
 pub returns : goal.returns

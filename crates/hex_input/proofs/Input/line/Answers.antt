@@ -5,7 +5,6 @@ use lib.ListN.{length}
 use Rattle.hex_parse.specs.Lines.{line_of}
 use Rattle.hex_parse.specs.declared.Line.{Line}
 use Rattle.hex_input.specs.Read.{ended}
-use borrow.Author.Rules.{rules}
 use Rattle.hex_input.proofs.Input.line.Goals as goal
 
 pub returns : goal.returns

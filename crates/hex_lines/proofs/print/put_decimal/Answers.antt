@@ -1,4 +1,3 @@
-use borrow.Author.Rules.{rules}
 use Rattle.hex_lines.proofs.Laws as laws
 use Rattle.hex_lines.proofs.print.put_decimal.Goals as goal
 

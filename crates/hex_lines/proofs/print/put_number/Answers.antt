@@ -1,7 +1,6 @@
 use Prim.Native.Nat.{ℕ, ◌+◌, ◌-◌, ◌*◌}
 use mathlib.Core.List.{List}
 use mathlib.Core.Path.{◌≡◌, ap, ◌∙◌}
-use borrow.Author.Rules.{rules}
 use lib.ListN.{length, take, drop}
 use lib.Seq.{paste}
 use Rattle.hex_lines.specs.Hex.{text_of, big_endian}

@@ -1,9 +1,8 @@
-use Prim.Native.Nat.{◌-◌, ◌*◌, ◌≤◌}
+use Prim.Native.Nat.{◌*◌}
 use mathlib.Core.Path.{◌≡◌, sym, ◌∙◌}
 use native.Mathlib.Omega.{arith}
-use borrow.Author.Rules.{rules}
 use lib.ListN.{length-set, length}
-use lib.Seq.{paste, paste-zero}
+use lib.Seq.{paste-zero}
 use Rattle.hex_lines.specs.Hex.{text_of}
 use Rattle.hex_lines.proofs.Laws as laws
 use Rattle.hex_lines.proofs.print.put_octets.Goals as goal
@@ -37,8 +36,7 @@ bounds-out-j-in-loop-i c =
     ))
 
 pub loop-i-preserved : goal.loop-i-preserved
-loop-i-preserved c =
-    (
+loop-i-preserved c = (
   omega arith,
   laws.put_two c.args.out.now (text_of c.args.octets.now)
       c.loop-i.out c.args.at c.loop-i.i

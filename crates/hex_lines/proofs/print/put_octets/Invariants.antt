@@ -1,11 +1,8 @@
 use Prim.Native.Nat.{◌-◌, ◌*◌, ◌≤◌}
-use mathlib.Core.Path.{◌≡◌, sym, ◌∙◌}
-use native.Mathlib.Omega.{arith}
-use borrow.Author.Rules.{rules}
-use lib.ListN.{length-set, length}
-use lib.Seq.{paste, paste-zero}
+use mathlib.Core.Path.{◌≡◌}
+use lib.ListN.{length}
+use lib.Seq.{paste}
 use Rattle.hex_lines.specs.Hex.{text_of}
-use Rattle.hex_lines.proofs.Laws as laws
 use Rattle.hex_lines.proofs.print.put_octets.Given as goal
 
 abbrev pub invariant-loop-i : goal.invariant-loop-i

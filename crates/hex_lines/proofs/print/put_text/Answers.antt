@@ -1,9 +1,7 @@
-use Prim.Native.Nat.{◌-◌, ◌≤◌}
 use mathlib.Core.Path.{◌≡◌, refl}
 use native.Mathlib.Omega.{arith}
-use borrow.Author.Rules.{rules}
 use lib.ListN.{length}
-use lib.Seq.{paste, paste-zero}
+use lib.Seq.{paste-zero}
 use Rattle.hex_lines.proofs.Laws as laws
 use Rattle.hex_lines.proofs.print.put_text.Goals as goal
 
@@ -22,8 +20,7 @@ bounds-out-at c =
     )
 
 pub loop-i-preserved : goal.loop-i-preserved
-loop-i-preserved c =
-    (
+loop-i-preserved c = (
   omega arith,
   laws.put_one c.args.out.now c.args.text.now c.loop-i.out
       c.args.at c.loop-i.i _ c.loop-i.invariant.1 (omega arith) (omega arith) refl,

@@ -1,10 +1,7 @@
 use Prim.Native.Nat.{◌-◌, ◌≤◌}
-use mathlib.Core.Path.{◌≡◌, refl}
-use native.Mathlib.Omega.{arith}
-use borrow.Author.Rules.{rules}
+use mathlib.Core.Path.{◌≡◌}
 use lib.ListN.{length}
-use lib.Seq.{paste, paste-zero}
-use Rattle.hex_lines.proofs.Laws as laws
+use lib.Seq.{paste}
 use Rattle.hex_lines.proofs.print.put_text.Given as goal
 
 abbrev pub invariant-loop-i : goal.invariant-loop-i

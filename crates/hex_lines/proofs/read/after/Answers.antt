@@ -1,7 +1,6 @@
 use Prim.Native.Nat.{◌-◌}
 use lib.ListN.{length}
 use Rattle.hex_lines.proofs.Laws as laws
-use borrow.Author.Rules.{rules}
 use Rattle.hex_lines.proofs.read.after.Goals as goal
 
 pub returns-then-text-at : goal.returns-then-text-at

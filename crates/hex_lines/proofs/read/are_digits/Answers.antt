@@ -1,10 +1,4 @@
-use Prim.Native.Nat.{◌-◌, ◌≤◌}
-use mathlib.Core.Path.{◌≡◌}
 use native.Mathlib.Omega.{arith}
-use borrow.Author.Tests.{not-true, not-false}
-use borrow.Author.Rules.{rules}
-use lib.ListN.{length, drop}
-use Rattle.hex_lines.specs.Hex.{are_digits}
 use Rattle.hex_lines.proofs.Laws as laws
 use Rattle.hex_lines.proofs.read.are_digits.Goals as goal
 
@@ -16,8 +10,7 @@ returns-then-not-is_digit c =
     c.if-not-is_digit.true c.loop-i.invariant.1
 
 pub loop-i-preserved : goal.loop-i-preserved
-loop-i-preserved c =
-    (
+loop-i-preserved c = (
   omega arith,
   laws.digits-go _ c.loop-i.i (omega arith) c.is_digit.result c.is_digit.ensures
       c.if-not-is_digit.false c.loop-i.invariant.1,

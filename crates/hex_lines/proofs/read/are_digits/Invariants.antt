@@ -1,11 +1,7 @@
 use Prim.Native.Nat.{◌-◌, ◌≤◌}
 use mathlib.Core.Path.{◌≡◌}
-use native.Mathlib.Omega.{arith}
-use borrow.Author.Tests.{not-true, not-false}
-use borrow.Author.Rules.{rules}
 use lib.ListN.{length, drop}
 use Rattle.hex_lines.specs.Hex.{are_digits}
-use Rattle.hex_lines.proofs.Laws as laws
 use Rattle.hex_lines.proofs.read.are_digits.Given as goal
 
 abbrev pub invariant-loop-i : goal.invariant-loop-i

@@ -1,6 +1,4 @@
 use mathlib.Core.Path.{sym, ◌∙◌}
-use borrow.Author.Tests.{not-true, not-false}
-use borrow.Author.Rules.{rules}
 use Rattle.hex_lines.proofs.Texts as texts
 use Rattle.hex_lines.proofs.read.decode.Goals as goal
 

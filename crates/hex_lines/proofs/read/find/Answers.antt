@@ -1,9 +1,5 @@
-use Prim.Native.Nat.{◌+◌, ◌-◌, ◌≤◌}
-use mathlib.Core.Path.{◌≡◌}
 use native.Mathlib.Omega.{arith}
 use borrow.Author.Rules.{rules}
-use lib.ListN.{length, drop}
-use Rattle.hex_lines.specs.Line.{up_to}
 use Rattle.hex_lines.proofs.Laws as laws
 use Rattle.hex_lines.proofs.read.find.Goals as goal
 
@@ -18,8 +14,7 @@ bounds-text-at c =
     search rules
 
 pub returns-then-text-at : goal.returns-then-text-at
-returns-then-text-at c =
-    (
+returns-then-text-at c = (
   laws.found _ c.loop-at.at (omega arith) _ _ c.if-text-at.true c.loop-at.invariant.2,
   omega arith,
   omega arith,

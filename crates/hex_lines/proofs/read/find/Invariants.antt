@@ -1,10 +1,7 @@
 use Prim.Native.Nat.{◌+◌, ◌-◌, ◌≤◌}
 use mathlib.Core.Path.{◌≡◌}
-use native.Mathlib.Omega.{arith}
-use borrow.Author.Rules.{rules}
 use lib.ListN.{length, drop}
 use Rattle.hex_lines.specs.Line.{up_to}
-use Rattle.hex_lines.proofs.Laws as laws
 use Rattle.hex_lines.proofs.read.find.Given as goal
 
 abbrev pub invariant-loop-at : goal.invariant-loop-at

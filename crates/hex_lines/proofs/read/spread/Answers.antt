@@ -1,9 +1,8 @@
-use Prim.Native.Nat.{◌-◌, ◌/◌, ◌≤◌}
+use Prim.Native.Nat.{◌/◌}
 use mathlib.Core.Path.{◌≡◌, sym, ◌∙◌}
 use native.Mathlib.Omega.{arith}
-use borrow.Author.Rules.{rules}
 use lib.ListN.{length}
-use lib.Seq.{paste, paste-zero}
+use lib.Seq.{paste-zero}
 use Rattle.hex_lines.specs.Hex.{octets_of}
 use Rattle.hex_lines.proofs.Laws as laws
 use Rattle.hex_lines.proofs.read.spread.Goals as goal
@@ -24,8 +23,7 @@ bounds-out-i c =
     )
 
 pub loop-i-preserved : goal.loop-i-preserved
-loop-i-preserved c =
-    (
+loop-i-preserved c = (
   omega arith,
   laws.put_front c.args.out.now (octets_of c.args.text.now)
       _ c.loop-i.i _ c.loop-i.invariant.1 (omega arith) (omega (

@@ -1,11 +1,7 @@
 use Prim.Native.Nat.{◌-◌, ◌^◌, ◌≤◌, ◌<◌}
 use mathlib.Core.Path.{◌≡◌}
-use native.Mathlib.Numerals.{add-one}
-use native.Mathlib.Omega.{arith}
-use borrow.Author.Rules.{rules}
 use lib.ListN.{length, drop}
 use Rattle.hex_lines.specs.Hex.{number_after}
-use Rattle.hex_lines.proofs.Laws as laws
 use Rattle.hex_lines.proofs.read.value.Given as goal
 
 abbrev pub invariant-loop-i : goal.invariant-loop-i

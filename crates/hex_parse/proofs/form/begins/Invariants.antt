@@ -1,11 +1,7 @@
 use Prim.Native.Nat.{◌-◌, ◌≤◌}
 use mathlib.Core.Path.{◌≡◌}
-use native.Mathlib.Omega.{arith}
-use borrow.Author.Tests.{not-true, not-false}
-use borrow.Author.Rules.{rules}
 use lib.ListN.{length, drop}
 use Rattle.hex_parse.specs.Form.{begins}
-use Rattle.hex_parse.proofs.Laws as laws
 use Rattle.hex_parse.proofs.form.begins.Given as goal
 
 abbrev pub invariant-loop-i : goal.invariant-loop-i

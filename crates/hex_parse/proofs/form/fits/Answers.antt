@@ -1,6 +1,5 @@
 use borrow.Author.Tests.{eq-eqb, ne_eqb}
 use Rattle.hex_parse.specs.Form.{fits}
-use borrow.Author.Rules.{rules}
 use Rattle.hex_parse.proofs.form.fits.Goals as goal
 
 pub returns-then-text-form : goal.returns-then-text-form

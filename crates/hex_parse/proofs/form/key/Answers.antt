@@ -1,5 +1,4 @@
 use Rattle.hex_parse.specs.Form.{key_at}
-use borrow.Author.Rules.{rules}
 use Rattle.hex_parse.proofs.form.key.Goals as goal
 
 pub returns : goal.returns

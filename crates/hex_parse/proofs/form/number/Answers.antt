@@ -3,7 +3,6 @@ use lib.ListN.{length}
 use Rattle.hex_lines.specs.Hex.{number_after}
 use Rattle.hex_lines.proofs.Laws as hex
 use Rattle.hex_parse.specs.Form.{number_at}
-use borrow.Author.Rules.{rules}
 use Rattle.hex_parse.proofs.form.number.Goals as goal
 
 pub returns : goal.returns

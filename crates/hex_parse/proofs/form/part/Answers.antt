@@ -1,6 +1,5 @@
 use mathlib.Core.Path.{ap, ◌∙◌}
 use lib.ListN.{take}
-use borrow.Author.Rules.{rules}
 use Rattle.hex_parse.proofs.form.part.Goals as goal
 
 pub returns : goal.returns

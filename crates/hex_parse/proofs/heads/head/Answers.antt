@@ -1,6 +1,5 @@
 use mathlib.Core.Path.{sym, ◌∙◌}
 use Rattle.hex_parse.specs.Lines.{head_of, seal_line}
-use borrow.Author.Rules.{rules}
 use Rattle.hex_parse.proofs.heads.head.Goals as goal
 
 pub returns-then-begins : goal.returns-then-begins

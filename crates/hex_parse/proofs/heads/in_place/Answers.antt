@@ -1,6 +1,5 @@
 use mathlib.Core.Path.{sym, ◌∙◌}
 use Rattle.hex_parse.specs.Lines.{in_place_line}
-use borrow.Author.Rules.{rules}
 use Rattle.hex_parse.proofs.heads.in_place.Goals as goal
 
 pub returns-then-begins : goal.returns-then-begins
@@ -21,9 +20,9 @@ returns-then-begins-3 c =
 pub returns-then-fits : goal.returns-then-fits
 unfolding in_place_line
 returns-then-fits c =
-    simp (c.plain.ensures, c.octet-then-fits.ensures, c.slot-then-fits.ensures, sym c.fits2.ensures ∙ c.if-fits.true, sym c.begins-3.ensures ∙ c.if-begins-3.false, sym c.begins-2.ensures ∙ c.if-begins-2.false, sym c.begins.ensures ∙ c.if-begins.false)
+    simp (c.plain.ensures, c.octet-then-fits.ensures, c.slot-then-fits.ensures, sym c.fits.ensures ∙ c.if-fits.true, sym c.begins-3.ensures ∙ c.if-begins-3.false, sym c.begins-2.ensures ∙ c.if-begins-2.false, sym c.begins.ensures ∙ c.if-begins.false)
 
 pub returns : goal.returns
 unfolding in_place_line
 returns c =
-    simp (c.bad.ensures, sym c.fits2.ensures ∙ c.if-fits.false, sym c.begins-3.ensures ∙ c.if-begins-3.false, sym c.begins-2.ensures ∙ c.if-begins-2.false, sym c.begins.ensures ∙ c.if-begins.false)
+    simp (c.bad.ensures, sym c.fits.ensures ∙ c.if-fits.false, sym c.begins-3.ensures ∙ c.if-begins-3.false, sym c.begins-2.ensures ∙ c.if-begins-2.false, sym c.begins.ensures ∙ c.if-begins.false)

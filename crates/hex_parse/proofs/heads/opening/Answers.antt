@@ -1,6 +1,5 @@
 use mathlib.Core.Path.{sym, ◌∙◌}
 use Rattle.hex_parse.specs.Lines.{open_line}
-use borrow.Author.Rules.{rules}
 use Rattle.hex_parse.proofs.heads.opening.Goals as goal
 
 pub returns-then-begins : goal.returns-then-begins

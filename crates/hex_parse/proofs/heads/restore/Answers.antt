@@ -1,5 +1,4 @@
 use Rattle.hex_parse.specs.Lines.{restore_line}
-use borrow.Author.Rules.{rules}
 use Rattle.hex_parse.proofs.heads.restore.Goals as goal
 
 pub returns : goal.returns

@@ -19,6 +19,9 @@ pub returns : goal.returns
 returns c =
     let a = c.args in
     let p = a.plain.now in
-    let h = beside_of a.core a.header_type a.count a.bearer a.direction p in record { answer = c.answered.ensures h c.read_beside-inside.ensures.answer ∙
+    let h = beside_of a.core a.header_type a.count a.bearer a.direction p in record {
+      answer = c.answered.ensures h c.read_beside-inside.ensures.answer ∙
           ap (λ (k : ℕ). open_answer a.count a.distance (length p) a.header_type (inside_number k h) (length (beside h)))
-          (sym c.if-number-ne0.false ∙ c.look-number.ensures); wrote = c.read_beside-inside.ensures.wrote }
+          (sym c.if-number-ne0.false ∙ c.look-number.ensures);
+      wrote = c.read_beside-inside.ensures.wrote;
+    }

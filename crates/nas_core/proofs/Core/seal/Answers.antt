@@ -28,7 +28,7 @@ counted c = set c.args.body.now 4 (c.args.count % 256)
 
 many : (c : After-cipher_and_code-code) → length (put_mid 4 (length (counted c) - 4) (counted c) c.cipher_and_code-code.new.octets) ≡ length c.args.body.now
 many c =
-    same_len_mid 4 (length (counted c) - 4) (counted c) c.cipher_and_code-code.new.octets c.cipher_and_code-code.auto.1.1.1.1.1.0
+    same_len_mid 4 (length (counted c) - 4) (counted c) c.cipher_and_code-code.new.octets c.cipher_and_code-code.auto.octets
     ∙ length-set c.args.body.now 4 (c.args.count % 256)
 
 pub put_code-requires : goal.put_code-requires
@@ -37,7 +37,7 @@ put_code-requires c =
 
 pub shape_of-body : goal.shape_of-body
 shape_of-body c =
-    c.put_code.auto.1.0 ∙ many (goal.at.shape_of-body c).After-cipher_and_code-code
+    c.put_code.auto.body ∙ many (goal.at.shape_of-body c).After-cipher_and_code-code
 
 pub returns : goal.returns
 unfolding protected

@@ -16,15 +16,21 @@ take_aes-requires c =
 
 pub returns-then-are_aes : goal.returns-then-are_aes
 returns-then-are_aes c =
-    let a = c.args in record { fits = c.take_aes.ensures.fits; read = c.take_aes.ensures.read ∙
+    let a = c.args in record {
+      fits = c.take_aes.ensures.fits;
+      read = c.take_aes.ensures.read ∙
           ap (λ (z : Bool). cond c.take_aes.result (payload a.self z a.count a.bearer a.direction (drop (a.at + 5) a.message.now)) a.out.now)
-          (sym c.if-ciphered.true) }
+          (sym c.if-ciphered.true);
+    }
 
 pub returns-then-fits : goal.returns-then-fits
 returns-then-fits c =
-    let a = c.args in record { fits = sym c.if-fits.true ∙ c.fits2.ensures; read = c.fill.ensures ∙
-          ap (λ (l : List ℕ). payload a.self a.ciphered a.count a.bearer a.direction l) (rest (a.at + 5) a.message.now) }
+    let a = c.args in record {
+      fits = sym c.if-fits.true ∙ c.fits.ensures;
+      read = c.fill.ensures ∙
+          ap (λ (l : List ℕ). payload a.self a.ciphered a.count a.bearer a.direction l) (rest (a.at + 5) a.message.now);
+    }
 
 pub returns : goal.returns
 returns c =
-    record { fits = sym c.if-fits.false ∙ c.fits2.ensures; read = refl }
+    record { fits = sym c.if-fits.false ∙ c.fits.ensures; read = refl }

@@ -27,7 +27,7 @@ returns-then-fits c =
     simp (
       sym c.wraps.ensures,
       sym c.forward-candidate.ensures ∙ c.in-At.is,
-      sym c.fits2.ensures ∙ c.if-fits.true,
+      sym c.fits.ensures ∙ c.if-fits.true,
       c.used.ensures,
       c.distance_to.ensures,
     )
@@ -39,5 +39,5 @@ returns-else-fits c =
     simp (
       sym c.wraps.ensures,
       sym c.forward-candidate.ensures ∙ c.in-At.is,
-      sym c.fits2.ensures ∙ c.if-fits.false,
+      sym c.fits.ensures ∙ c.if-fits.false,
     )

@@ -16,22 +16,22 @@ use Rattle.nas_eps.proofs.octets.put.Goals as goal
 
 -- as many octets came back as the inner message has
 many : (c : After-copy) → length c.copy.new.dst ≡ length c.args.inner.now
-many c = c.copy.auto.1.0 ∙ simp (length-take, length-drop) (omega arith)
+many c = c.copy.auto.dst ∙ simp (length-take, length-drop) (omega arith)
 
 -- the list with the inner octets in their place, as long as it was
-abbrev filled : After-copy → List ℕ
+abbrev filled : After-seal → List ℕ
 filled c = put_mid 6 ((6 + length c.args.inner.now) - 6) c.args.out.now c.copy.new.dst
 
-whole : (c : After-seal)
+whole : (c : After-seal) → length c.copy.new.dst ≡ length c.args.inner.now
     → length (put_mid 1 ((6 + length c.args.inner.now) - 1) (filled c) c.seal.new.body)
     ≡ length c.args.out.now
-whole c =
-    same_len_mid 1 ((6 + length c.args.inner.now) - 1) (filled c) c.seal.new.body c.seal.auto.1.1.1.1.1.0
-    ∙ mid-length 1 6 _ _ c.args.out.now c.copy.new.dst refl refl c.requires.1 (many c)
+whole c m =
+    same_len_mid 1 ((6 + length c.args.inner.now) - 1) (filled c) c.seal.new.body c.seal.auto.body
+    ∙ mid-length 1 6 _ _ c.args.out.now c.copy.new.dst refl refl c.requires.1 m
 
 pub shape_of-out : goal.shape_of-out
 shape_of-out c =
-    simp length-set (whole (goal.at.shape_of-out c).After-seal)
+    simp length-set (whole (goal.at.shape_of-out c).After-seal (many (goal.at.shape_of-out c).After-copy))
 
 pub returns : goal.returns
 unfolding message

@@ -26,7 +26,10 @@ returns c =
     let a = c.args in
     let m = a.message.now in
     let out = a.out.now in
-    let n = length m - 6 in record { opening = c.verify.ensures.opening; read = front_read (λ (k : ℕ). payload a.core (ciphers (type_of m)) k 0 a.direction (drop 6 m)) n out _ c.verify.result
+    let n = length m - 6 in record {
+      opening = c.verify.ensures.opening;
+      read = front_read (λ (k : ℕ). payload a.core (ciphers (type_of m)) k 0 a.direction (drop 6 m)) n out _ c.verify.result
           (λ k. payload-length a.core k 0 a.direction (drop 6 m) (ciphers (type_of m)) ∙ length-drop 6 m)
           (c.verify.ensures.read ∙
-          ap (λ (t : Bool). read_as (λ (k : ℕ). payload a.core t k 0 a.direction (drop 6 m)) (take n out) c.verify.result) c.is_ciphering-ciphered.ensures) }
+          ap (λ (t : Bool). read_as (λ (k : ℕ). payload a.core t k 0 a.direction (drop 6 m)) (take n out) c.verify.result) c.is_ciphering-ciphered.ensures);
+    }

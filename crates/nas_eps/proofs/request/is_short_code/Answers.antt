@@ -16,7 +16,7 @@ pub returns : goal.returns
 returns c =
     let k = c.args.code in
     let m = c.args.received.now in
-    let g = c.shared_slice_known-1.given in
+    let g = c.type_inv.received in
     let octet : (i : ℕ) → Fits w8 (get_or k i 0) = λ i. search rules in
     rw (c.short.ensures, c.short-expected.ensures)
     (compared _ _ _ _ (g 0).fits (g 1).fits (octet 2).fits (octet 3).fits

@@ -1,5 +1,4 @@
 use Rattle.snow3g.specs.Tables.{joined}
-use Rattle.std.proofs.Common.{rules}
 use Rattle.snow3g.proofs.boxes.joined.Goals as goal
 
 pub returns : goal.returns

@@ -1,4 +1,4 @@
-use Rattle.std.proofs.Common.{refl, rules}
+use Rattle.std.proofs.Common.{refl}
 use Rattle.snow3g.specs.Tables.{turn24}
 use Rattle.snow3g.proofs.boxes.turn24.Goals as goal
 

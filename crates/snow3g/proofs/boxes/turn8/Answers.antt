@@ -1,4 +1,4 @@
-use Rattle.std.proofs.Common.{refl, rules}
+use Rattle.std.proofs.Common.{refl}
 use Rattle.snow3g.specs.Tables.{turn8}
 use Rattle.snow3g.proofs.boxes.turn8.Goals as goal
 

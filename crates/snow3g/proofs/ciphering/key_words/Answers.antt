@@ -1,4 +1,4 @@
-use Rattle.std.proofs.Common.{ap, ◌∙◌, rules}
+use Rattle.std.proofs.Common.{ap, ◌∙◌}
 use Rattle.aes.proofs.Lists.{four-by, itself}
 use Rattle.snow3g.specs.Uea2.{key_words}
 use Rattle.snow3g.proofs.ciphering.key_words.Goals as goal

@@ -1,5 +1,4 @@
 use Rattle.snow3g.specs.Uea2.{nea1_of}
-use Rattle.std.proofs.Common.{rules}
 use Rattle.snow3g.proofs.ciphering.nea1.Goals as goal
 
 pub returns : goal.returns

@@ -1,4 +1,4 @@
-use Rattle.std.proofs.Common.{add-zero, rules}
+use Rattle.std.proofs.Common.{add-zero}
 use Rattle.snow3g.proofs.Blocks.{block-eight}
 use Rattle.snow3g.proofs.integrity.block_at.Goals as goal
 

@@ -1,6 +1,5 @@
 use Rattle.snow3g.proofs.Blocks.{bit_length}
 use Rattle.snow3g.specs.Uia2.{closed}
-use Rattle.std.proofs.Common.{rules}
 use Rattle.snow3g.proofs.integrity.closed.Goals as goal
 
 pub returns : goal.returns

@@ -1,6 +1,5 @@
 use Rattle.streams.specs.Stream.{after}
 use Rattle.snow3g.specs.Uia2.{code_under, z}
-use Rattle.std.proofs.Common.{rules}
 use Rattle.snow3g.proofs.integrity.code_under.Goals as goal
 
 pub returns : goal.returns

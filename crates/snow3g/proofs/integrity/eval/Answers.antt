@@ -1,4 +1,4 @@
-use Rattle.std.proofs.Common.{◌≡◌, ◌-◌, ◌≤◌, refl, add-one, arith, rules}
+use Rattle.std.proofs.Common.{◌≡◌, refl, add-one, arith}
 use Rattle.snow3g.specs.Uia2.{eval}
 use Rattle.snow3g.proofs.integrity.eval.Goals as goal
 

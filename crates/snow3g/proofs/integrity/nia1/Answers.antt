@@ -1,5 +1,4 @@
 use Rattle.snow3g.specs.Uia2.{nia1_of}
-use Rattle.std.proofs.Common.{rules}
 use Rattle.snow3g.proofs.integrity.nia1.Goals as goal
 
 pub returns : goal.returns

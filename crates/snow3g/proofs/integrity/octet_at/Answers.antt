@@ -1,4 +1,4 @@
-use Rattle.std.proofs.Common.{sym, rules}
+use Rattle.std.proofs.Common.{sym}
 use lib.ListN.{get_or-eq_default}
 use Rattle.snow3g.proofs.integrity.octet_at.Goals as goal
 

@@ -1,5 +1,4 @@
 use Rattle.snow3g.specs.Uia2.{uia2_of}
-use Rattle.std.proofs.Common.{rules}
 use Rattle.snow3g.proofs.integrity.uia2.Goals as goal
 
 pub returns : goal.returns

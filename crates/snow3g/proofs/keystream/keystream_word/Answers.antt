@@ -1,6 +1,5 @@
-use Rattle.std.proofs.Common.{◌≡◌, ◌-◌, ◌≤◌, refl, add-one, arith, rules}
+use Rattle.std.proofs.Common.{◌≡◌, refl, add-one, arith}
 use Rattle.streams.specs.Stream.{after}
-use Rattle.snow3g.specs.Keystream.{step}
 use Rattle.snow3g.proofs.keystream.keystream_word.Goals as goal
 
 pub loop-done-init : goal.loop-done-init

@@ -1,4 +1,4 @@
-use Rattle.std.proofs.Common.{◌≡◌, ◌-◌, ◌≤◌, refl, add-one, arith, rules}
+use Rattle.std.proofs.Common.{◌≡◌, ◌-◌, ◌≤◌}
 use Rattle.streams.specs.Stream.{after}
 use Rattle.snow3g.specs.Keystream.{step}
 use Rattle.snow3g.proofs.keystream.keystream_word.Given as goal

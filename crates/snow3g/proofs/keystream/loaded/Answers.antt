@@ -1,4 +1,4 @@
-use Rattle.std.proofs.Common.{◌≡◌, refl, rules}
+use Rattle.std.proofs.Common.{refl}
 use Rattle.snow3g.specs.Keystream.{load}
 use Rattle.snow3g.proofs.keystream.loaded.Goals as goal
 

@@ -1,5 +1,4 @@
 use Rattle.snow3g.specs.Keystream.{step}
-use Rattle.std.proofs.Common.{rules}
 use Rattle.snow3g.proofs.keystream.next.Goals as goal
 
 pub returns : goal.returns

@@ -1,4 +1,4 @@
-use Rattle.std.proofs.Common.{◌≡◌, ◌-◌, ◌≤◌, refl, add-one, arith, rules}
+use Rattle.std.proofs.Common.{◌≡◌, refl, add-one, arith}
 use Rattle.streams.specs.Stream.{after}
 use Rattle.snow3g.specs.Keystream.{initialise, start}
 use Rattle.snow3g.proofs.keystream.start.Goals as goal

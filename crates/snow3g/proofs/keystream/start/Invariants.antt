@@ -1,6 +1,6 @@
-use Rattle.std.proofs.Common.{◌≡◌, ◌-◌, ◌≤◌, refl, add-one, arith, rules}
+use Rattle.std.proofs.Common.{◌≡◌, ◌-◌, ◌≤◌}
 use Rattle.streams.specs.Stream.{after}
-use Rattle.snow3g.specs.Keystream.{initialise, start}
+use Rattle.snow3g.specs.Keystream.{initialise}
 use Rattle.snow3g.proofs.keystream.start.Given as goal
 
 abbrev pub invariant-loop-done : goal.invariant-loop-done

@@ -1,4 +1,4 @@
-use Rattle.std.proofs.Common.{◌≡◌, refl, rules}
+use Rattle.std.proofs.Common.{refl}
 use Rattle.snow3g.specs.Machine.{shift}
 use Rattle.snow3g.proofs.machine.shifted.Goals as goal
 

@@ -1,4 +1,4 @@
-use Rattle.std.proofs.Common.{rules, le-ltb, lt-ltb}
+use Rattle.std.proofs.Common.{le-ltb, lt-ltb}
 use Rattle.snow3g.specs.Uia2.{mul64x}
 use Rattle.snow3g.proofs.mul64.mul64x.Goals as goal
 

@@ -1,4 +1,4 @@
-use Rattle.std.proofs.Common.{◌≡◌, ◌+◌, ◌-◌, ◌*◌, ◌/◌, ◌^◌, ◌<◌, ◌≤◌, sym, ◌∙◌, arith, rules}
+use Rattle.std.proofs.Common.{◌≡◌, ◌+◌, ◌-◌, ◌*◌, ◌/◌, ◌^◌, sym, ◌∙◌, arith, rules}
 use Rattle.snow3g.specs.Uia2.{mul64}
 use Rattle.snow3g.proofs.Linear.{no_bits, all-bits, turned-bits}
 use Rattle.snow3g.proofs.mul64.product.Goals as goal

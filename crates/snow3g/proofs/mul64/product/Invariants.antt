@@ -1,6 +1,5 @@
-use Rattle.std.proofs.Common.{◌≡◌, ◌+◌, ◌-◌, ◌*◌, ◌/◌, ◌^◌, ◌<◌, ◌≤◌, sym, ◌∙◌, arith, rules}
+use Rattle.std.proofs.Common.{◌≡◌, ◌*◌, ◌/◌, ◌^◌, ◌≤◌}
 use Rattle.snow3g.specs.Uia2.{mul64}
-use Rattle.snow3g.proofs.Linear.{no_bits, all-bits, turned-bits}
 use Rattle.snow3g.proofs.mul64.product.Given as goal
 
 abbrev pub invariant-loop-left : goal.invariant-loop-left

@@ -1,4 +1,4 @@
-use Rattle.std.proofs.Common.{div-one, rules}
+use Rattle.std.proofs.Common.{div-one}
 use Rattle.zuc.specs.Ciphering.{cipher_iv}
 use Rattle.zuc.proofs.ciphering.cipher_iv.Goals as goal
 

@@ -1,7 +1,7 @@
 use Rattle.aes.specs.Octets.{octets}
-use Rattle.std.proofs.Common.{◌≡◌, ◌-◌, ◌*◌, ◌/◌, ◌≤◌, length, refl, ap, ◌∙◌, add-one, arith, rules}
+use Rattle.std.proofs.Common.{◌≡◌, ◌/◌, length, refl, ap, ◌∙◌, add-one, arith, rules}
 use Rattle.streams.specs.Stream.{after}
-use Rattle.streams.proofs.Ciphers.{ciphered, none, whole_word, last_word}
+use Rattle.streams.proofs.Ciphers.{none, whole_word, last_word}
 use Rattle.zuc.specs.Keystream.{work, word}
 use Rattle.zuc.proofs.ciphering.cipher_with.Goals as goal
 

@@ -1,5 +1,4 @@
 use Rattle.zuc.specs.Ciphering.{nea3_of}
-use Rattle.std.proofs.Common.{rules}
 use Rattle.zuc.proofs.ciphering.nea3.Goals as goal
 
 pub returns : goal.returns

@@ -1,4 +1,4 @@
-use Rattle.std.proofs.Common.{◌≡◌, ◌%◌, sym, one-mul, zero-mul, arith, rules}
+use Rattle.std.proofs.Common.{◌≡◌, ◌%◌, sym, one-mul, zero-mul, arith}
 use Rattle.zuc.proofs.integrity.chosen.Goals as goal
 
 pub returns-then-o-eq0 : goal.returns-then-o-eq0

@@ -1,4 +1,4 @@
-use Rattle.std.proofs.Common.{div-one, rules}
+use Rattle.std.proofs.Common.{div-one}
 use Rattle.zuc.specs.Integrity.{code_iv}
 use Rattle.zuc.proofs.integrity.code_iv.Goals as goal
 

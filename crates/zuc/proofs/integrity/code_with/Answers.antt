@@ -1,4 +1,4 @@
-use Rattle.std.proofs.Common.{◌≡◌, ◌+◌, ◌-◌, ◌*◌, ◌/◌, ◌%◌, ◌≤◌, length, refl, ap, ◌∙◌, add-one, arith, lit≤, rules}
+use Rattle.std.proofs.Common.{◌≡◌, ◌+◌, ◌*◌, ◌/◌, ◌%◌, length, refl, ap, ◌∙◌, add-one, arith, lit≤}
 use Rattle.zuc.proofs.Walk.{moved_by}
 use Rattle.zuc.proofs.Hashes.{hash_by, hash-part, code-end}
 use Rattle.zuc.proofs.integrity.code_with.Goals as goal

@@ -1,6 +1,6 @@
-use Rattle.std.proofs.Common.{◌≡◌, ◌+◌, ◌-◌, ◌*◌, ◌/◌, ◌%◌, ◌≤◌, length, refl, ap, ◌∙◌, add-one, arith, lit≤, rules}
+use Rattle.std.proofs.Common.{◌≡◌, ◌-◌, ◌*◌, ◌≤◌}
 use Rattle.zuc.proofs.Walk.{moved_by}
-use Rattle.zuc.proofs.Hashes.{hash_by, hash-part, code-end}
+use Rattle.zuc.proofs.Hashes.{hash_by}
 use Rattle.zuc.proofs.integrity.code_with.Given as goal
 
 abbrev pub invariant-loop-done : goal.invariant-loop-done

@@ -1,7 +1,7 @@
 use Rattle.zuc.specs.Windows.{window_at}
 use Rattle.streams.specs.Stream.{after}
 use Rattle.zuc.specs.Keystream.{work, word}
-use Rattle.std.proofs.Common.{ap, ◌∙◌, rules}
+use Rattle.std.proofs.Common.{ap, ◌∙◌}
 use Rattle.zuc.proofs.integrity.first_window.Goals as goal
 
 pub returns : goal.returns

@@ -1,5 +1,4 @@
 use Rattle.zuc.specs.Windows.{pair}
-use Rattle.std.proofs.Common.{rules}
 use Rattle.zuc.proofs.integrity.hash_octet.Goals as goal
 
 pub returns : goal.returns

@@ -1,4 +1,4 @@
-use Rattle.std.proofs.Common.{◌≡◌, ◌-◌, ◌≤◌, refl, add-one, arith, rules}
+use Rattle.std.proofs.Common.{◌≡◌, refl, add-one, arith}
 use Rattle.zuc.specs.Windows.{hash_part}
 use Rattle.zuc.proofs.integrity.hash_part.Goals as goal
 

@@ -1,5 +1,4 @@
 use Rattle.zuc.specs.Windows.{eight_bits}
-use Rattle.std.proofs.Common.{rules}
 use Rattle.zuc.proofs.integrity.hashed.Goals as goal
 
 pub returns : goal.returns

@@ -1,5 +1,5 @@
 use Rattle.zuc.specs.Windows.{last_word}
-use Rattle.std.proofs.Common.{rules, eq-eqb, ne_eqb}
+use Rattle.std.proofs.Common.{eq-eqb, ne_eqb}
 use Rattle.zuc.proofs.integrity.last_word.Goals as goal
 
 pub returns-then-n-eq0 : goal.returns-then-n-eq0

@@ -1,5 +1,4 @@
 use Rattle.zuc.specs.Windows.{moved}
-use Rattle.std.proofs.Common.{rules}
 use Rattle.zuc.proofs.integrity.next_window.Goals as goal
 
 pub returns : goal.returns

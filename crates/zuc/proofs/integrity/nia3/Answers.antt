@@ -1,5 +1,4 @@
 use Rattle.zuc.specs.Integrity.{nia3_of, nia3_bits}
-use Rattle.std.proofs.Common.{rules}
 use Rattle.zuc.proofs.integrity.nia3.Goals as goal
 
 pub returns : goal.returns

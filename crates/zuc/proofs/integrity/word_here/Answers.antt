@@ -1,5 +1,4 @@
 use Rattle.zuc.specs.Windows.{pair}
-use Rattle.std.proofs.Common.{rules}
 use Rattle.zuc.proofs.integrity.word_here.Goals as goal
 
 pub returns : goal.returns

@@ -1,5 +1,4 @@
 use Rattle.zuc.specs.Keystream.{clock}
-use Rattle.std.proofs.Common.{rules}
 use Rattle.zuc.proofs.keystream.clocked.Goals as goal
 
 pub returns : goal.returns

@@ -1,5 +1,4 @@
 use Rattle.zuc.specs.Keystream.{initialise}
-use Rattle.std.proofs.Common.{rules}
 use Rattle.zuc.proofs.keystream.initialised_once.Goals as goal
 
 pub returns : goal.returns

@@ -1,5 +1,5 @@
 use Rattle.zuc.specs.Keystream.{load}
-use Rattle.std.proofs.Common.{[], ◌∷◌, rules}
+use Rattle.std.proofs.Common.{[], ◌∷◌}
 use Rattle.zuc.proofs.keystream.loaded.Goals as goal
 
 pub returns : goal.returns

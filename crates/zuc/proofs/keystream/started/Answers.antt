@@ -1,6 +1,6 @@
-use Rattle.std.proofs.Common.{◌≡◌, ◌-◌, ◌≤◌, refl, add-one, arith, rules}
+use Rattle.std.proofs.Common.{◌≡◌, refl, add-one, arith}
 use Rattle.streams.specs.Stream.{after}
-use Rattle.zuc.specs.Keystream.{initialise, start}
+use Rattle.zuc.specs.Keystream.{start}
 use Rattle.zuc.proofs.keystream.started.Goals as goal
 
 pub loop-done-init : goal.loop-done-init

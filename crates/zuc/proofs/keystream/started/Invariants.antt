@@ -1,6 +1,6 @@
-use Rattle.std.proofs.Common.{◌≡◌, ◌-◌, ◌≤◌, refl, add-one, arith, rules}
+use Rattle.std.proofs.Common.{◌≡◌, ◌-◌, ◌≤◌}
 use Rattle.streams.specs.Stream.{after}
-use Rattle.zuc.specs.Keystream.{initialise, start}
+use Rattle.zuc.specs.Keystream.{initialise}
 use Rattle.zuc.proofs.keystream.started.Given as goal
 
 abbrev pub invariant-loop-done : goal.invariant-loop-done

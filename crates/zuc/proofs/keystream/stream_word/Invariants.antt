@@ -1,4 +1,4 @@
-use Rattle.std.proofs.Common.{◌≡◌, ◌-◌, ◌≤◌, refl, add-one, arith, rules}
+use Rattle.std.proofs.Common.{◌≡◌, ◌-◌, ◌≤◌}
 use Rattle.streams.specs.Stream.{after}
 use Rattle.zuc.specs.Keystream.{work}
 use Rattle.zuc.proofs.keystream.stream_word.Given as goal

@@ -1,5 +1,4 @@
 use Rattle.zuc.specs.Keystream.{word}
-use Rattle.std.proofs.Common.{rules}
 use Rattle.zuc.proofs.keystream.word_of.Goals as goal
 
 pub returns : goal.returns

@@ -1,5 +1,4 @@
 use Rattle.zuc.specs.Keystream.{work}
-use Rattle.std.proofs.Common.{rules}
 use Rattle.zuc.proofs.keystream.worked.Goals as goal
 
 pub returns : goal.returns

@@ -1,5 +1,4 @@
 use Rattle.zuc.specs.Nonlinear.{r1_of}
-use Rattle.std.proofs.Common.{rules}
 use Rattle.zuc.proofs.nonlinear.next_r1.Goals as goal
 
 pub returns : goal.returns

@@ -1,5 +1,4 @@
 use Rattle.zuc.specs.Nonlinear.{w2}
-use Rattle.std.proofs.Common.{rules}
 use Rattle.zuc.proofs.nonlinear.output2.Goals as goal
 
 pub returns : goal.returns

@@ -1,5 +1,4 @@
 use Rattle.zuc.specs.Nonlinear.{x0}
-use Rattle.std.proofs.Common.{rules}
 use Rattle.zuc.proofs.nonlinear.part0.Goals as goal
 
 pub returns : goal.returns

@@ -1,5 +1,4 @@
 use Rattle.zuc.specs.Nonlinear.{x1}
-use Rattle.std.proofs.Common.{rules}
 use Rattle.zuc.proofs.nonlinear.part1.Goals as goal
 
 pub returns : goal.returns

@@ -1,5 +1,4 @@
 use Rattle.zuc.specs.Nonlinear.{x2}
-use Rattle.std.proofs.Common.{rules}
 use Rattle.zuc.proofs.nonlinear.part2.Goals as goal
 
 pub returns : goal.returns

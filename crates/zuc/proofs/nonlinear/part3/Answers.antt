@@ -1,5 +1,4 @@
 use Rattle.zuc.specs.Nonlinear.{x3}
-use Rattle.std.proofs.Common.{rules}
 use Rattle.zuc.proofs.nonlinear.part3.Goals as goal
 
 pub returns : goal.returns

@@ -1,5 +1,4 @@
 use Rattle.zuc.specs.Nonlinear.{boxes}
-use Rattle.std.proofs.Common.{rules}
 use Rattle.zuc.proofs.nonlinear.substituted.Goals as goal
 
 pub returns : goal.returns

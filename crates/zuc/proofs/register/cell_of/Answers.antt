@@ -1,4 +1,4 @@
-use Rattle.std.proofs.Common.{ap, ◌∙◌, rules}
+use Rattle.std.proofs.Common.{ap, ◌∙◌}
 use Rattle.zuc.proofs.Folds.{fold, cell-fits, cell-zero, cell_other}
 use Rattle.zuc.proofs.register.cell_of.Goals as goal
 

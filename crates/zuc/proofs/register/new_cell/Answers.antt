@@ -1,4 +1,3 @@
-use Rattle.std.proofs.Common.{rules}
 use Rattle.zuc.proofs.register.new_cell.Goals as goal
 
 pub returns : goal.returns

@@ -1,6 +1,5 @@
 use Rattle.zuc.specs.Register.{shift, feedback}
 use Rattle.zuc.proofs.Folds.{cell-sum}
-use Rattle.std.proofs.Common.{rules}
 use Rattle.zuc.proofs.register.shifted.Goals as goal
 
 pub returns : goal.returns

@@ -1,6 +1,7 @@
 // Every public call of the EPS context again, with a contract in the words of its promises, proved from the call's own contract alone: a contract of nas_eps that
 // says less breaks this crate.
 #![tactic(auto)]
+
 ghost use Rattle.std.specs.Prelude.{◌≡◌, []};
 ghost use Rattle.nas_eps.specs.Leaves.{leaves, change_values, use_values, open_values};
 ghost use Rattle.promises_eps.specs.Calls.{set_window, reselect, seal_message, seal_request, open_message, create, restore, next_count, window, integrity, ciphering, outcome, gives, makes, reads};

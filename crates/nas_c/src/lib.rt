@@ -2,6 +2,7 @@
 // is one equality, for every input, with the definition of the call that it covers: nothing is decided here but whether there is such a direction and
 // connection.
 #![tactic(auto)]
+
 ghost use Rattle.std.specs.Prelude.{◌≡◌};
 ghost use Rattle.nas_c.specs.Numbers.{no_direction, no_connection, no_way, direction_of, connection_of};
 

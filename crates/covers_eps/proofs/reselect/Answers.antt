@@ -1,12 +1,7 @@
 use mathlib.Core.Path.{ap}
-use borrow.Author.Rules.{rules}
 use Rattle.nas_eps.specs.Leaves.{change_values}
 use Rattle.promises_eps.specs.Calls.{outcome}
 use Rattle.covers_eps.proofs.reselect.Goals as goal
-
-pub reselect-requires : goal.reselect-requires
-reselect-requires c =
-    search rules
 
 pub returns : goal.returns
 returns c =

@@ -1,5 +1,6 @@
 // An algorithm by its code (TS 24.501 Table 9.11.3.34.1): 0 is null, 1 SNOW 3G, 2 AES and 3 ZUC.
 #![tactic(auto)]
+
 ghost use Rattle.std.specs.Prelude.{◌≡◌, ◌&&◌, ◌++◌, eqb, take, drop};
 ghost use Rattle.snow3g.specs.Uea2.{nea1_of};
 ghost use Rattle.snow3g.specs.Uia2.{nia1_of};

@@ -1,5 +1,6 @@
 // Late messages survive a handover between accesses: a message sealed on one connection that arrives on the other is opened on the one that sealed it.
 #![tactic(auto)]
+
 ghost use Rattle.std.specs.Prelude.{◌≡◌, not, ◌&&◌};
 ghost use Rattle.nas_core.specs.Keyed.{wraps};
 ghost use Rattle.handover.specs.Across.{other, number_of, is_missed, both_of, leaves_across, elsewhere_of, across_of};

@@ -1,5 +1,6 @@
 // The line of an answer. Each function puts its text behind what stands before a place, and answers the place after it.
 #![tactic(auto)]
+
 ghost use Rattle.std.specs.Prelude.{◌≡◌, ◌&&◌, [], ◌++◌, ◌+◌, ◌*◌, ◌≤◌, length, take, drop};
 ghost use Rattle.hex_print.specs.Words.{Puts, word, decimal_word, octets_word, ok, no};
 ghost use Rattle.hex_print.specs.Lines.{wrote_of, second_of, used_text, received_text, content_text, answer_text, second_text, is_kept, tail_text, context_text, end_text, line_text};

@@ -1,5 +1,5 @@
 -- Creation, restore, reselection and the window size: calls that use no COUNT (document 01, "Words" and "The COUNT rule").
-use Rattle.std.specs.Prelude.{ℕ, Bool, cond, not, ◌&&◌, List, [], ◌∷◌, get_or, replicate, ltb}
+use Rattle.std.specs.Prelude.{ℕ, cond, List, [], ◌∷◌, get_or, replicate, ltb}
 use Rattle.count.specs.Rule.{resize_of, close_of}
 use Rattle.refusals.specs.Order.{◌when◌, first, refused_or}
 use Rattle.nas_core.specs.Keyed.{away_from_null}

@@ -2,6 +2,7 @@
 // context back. Each contract is that call's own, of the lent context before and after. Every answer stores what the call handed back: after a refusal but 8
 // that is the context as it was (crate mixture), after 8 the one that has the COUNT used.
 #![tactic(auto)]
+
 ghost use Rattle.std.specs.Prelude.{◌≡◌, []};
 ghost use Rattle.nas_5gs.specs.Leaves.{leaves, leaves_two};
 ghost use Rattle.nas_5gs.specs.Changes.{window_of};

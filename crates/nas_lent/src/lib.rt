@@ -1,6 +1,7 @@
 // The calls in place of crate nas_host on a copy of a context that comes by value and is handed back: what a program that holds its contexts by value
 // calls. Each contract is that of nas_5gs's call.
 #![tactic(auto)]
+
 ghost use Rattle.std.specs.Prelude.{◌≡◌, []};
 ghost use Rattle.nas_5gs.specs.Leaves.{leaves, leaves_two};
 ghost use Rattle.nas_5gs.specs.Changes.{window_of};

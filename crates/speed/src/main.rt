@@ -3,6 +3,7 @@
 //             at the end
 //   i1 i2 i3  make their code by 128-NIA1, 128-NIA2 or 128-NIA3 and write its first octet over their first one
 #![tactic(auto)]
+
 ghost use Rattle.std.specs.Prelude.{◌≤◌, length};
 
 const KEY: [u8; 16] = [0, 1, 2, 3, 4, 5, 6, 7, 8, 9, 10, 11, 12, 13, 14, 15];

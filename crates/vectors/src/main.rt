@@ -4,6 +4,7 @@
 //   neaA NAME key count bearer direction octets  niaA NAME key count bearer direction message; A is 1, 2 or 3
 //   snow3gat NAME key iv n, zucat NAME key iv n: word n of the key stream, counted from 1
 #![tactic(auto)]
+
 ghost use Rattle.std.specs.Prelude.{◌≡◌, ◌≤◌, length};
 
 // A word of a line.

@@ -1,4 +1,3 @@
-use borrow.Author.Rules.{rules}
 use Rattle.algorithms.proofs.nea3.Goals as goal
 
 pub returns : goal.returns

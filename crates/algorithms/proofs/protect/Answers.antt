@@ -19,5 +19,7 @@ returns-clause-ciphered c =
     let m = a.octets.now in
     let f : (List ℕ → List ℕ) = λ l. cipher_of a.ciphering a.ciphering_key a.count a.bearer a.direction l in
     let sized : ((l : List ℕ) → length (f l) ≡ length l) = λ l. cipher-length a.ciphering a.ciphering_key a.count a.bearer a.direction l in
-    elim c.if-octets-gt1.branch [ then-octets-gt1 w ↦ w.octets-is ∙ behind 1 m _ f w.cipher.ensures
-      | else-octets-gt1 w ↦ w.octets-is ∙ short f sized m w.if-octets-gt1.false ]
+    elim c.if-octets-gt1.branch [
+      | then-octets-gt1 w ↦ w.octets-is ∙ behind 1 m _ f w.cipher.ensures
+      | else-octets-gt1 w ↦ w.octets-is ∙ short f sized m w.if-octets-gt1.false
+    ]

@@ -16,8 +16,8 @@ pub returns : goal.returns
 returns c =
     let k = c.args.code in
     let m = c.args.received.now in
-    let g = c.shared_slice_known-1.given in
+    let heard : (i : ℕ) → Fits w8 (get_or m i 0) = λ i. search rules in
     let octet : (i : ℕ) → Fits w8 (get_or k i 0) = λ i. search rules in
     rw (c.word.ensures, c.word-expected.ensures)
-    (compared _ _ _ _ _ _ _ _ (g 0).fits (g 1).fits (g 2).fits (g 3).fits (octet 0).fits (octet 1).fits (octet 2).fits (octet 3).fits
+    (compared _ _ _ _ _ _ _ _ (heard 0).fits (heard 1).fits (heard 2).fits (heard 3).fits (octet 0).fits (octet 1).fits (octet 2).fits (octet 3).fits
     ∙ sym (cong (four m c.requires) (four k (search rules))))

@@ -1,7 +1,6 @@
 use mathlib.Core.Path.{◌≡◌}
 use Prim.Native.Nat.{◌≤◌, ◌-◌}
 use lib.ListN.{length}
-use borrow.Author.Rules.{rules}
 use Rattle.speed.proofs.cipher.Given as goal
 
 abbrev pub invariant-loop-done : goal.invariant-loop-done

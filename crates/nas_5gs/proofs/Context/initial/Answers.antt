@@ -4,7 +4,6 @@ use borrow.Author.Tests.{ne_eqb}
 use Rattle.initial.proofs.Laws.{laws}
 use Rattle.nas_5gs.proofs.Passed.{initial-passed, initial-whole}
 use Rattle.nas_5gs.specs.Initial.{initial_of}
-use borrow.Author.Rules.{rules}
 use Rattle.nas_5gs.proofs.Context.initial.Goals as goal
 
 pub returns-then-n-ne0 : goal.returns-then-n-ne0

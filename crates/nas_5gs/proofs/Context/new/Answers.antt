@@ -1,6 +1,5 @@
 use mathlib.Core.Path.{sym, ◌∙◌}
 use Rattle.nas_5gs.specs.Changes.{new_of}
-use borrow.Author.Rules.{rules}
 use Rattle.nas_5gs.proofs.Context.new.Goals as goal
 
 pub returns-then-is_unbuilt : goal.returns-then-is_unbuilt

@@ -11,7 +11,6 @@ use Rattle.nas_5gs.specs.declared.OpenAnswer.{OpenAnswer}
 use Rattle.nas_5gs.specs.Places.{direction_no, bearer_no, place_of}
 use Rattle.nas_5gs.specs.Leaves.{LeavesTwo}
 use Rattle.nas_5gs.specs.Open.{type_of, open_refusal, room_for, opened, open_of}
-use borrow.Author.Rules.{rules}
 use Rattle.nas_5gs.proofs.Context.open.Goals as goal
 
 pub returns-then-n-ne0 : goal.returns-then-n-ne0

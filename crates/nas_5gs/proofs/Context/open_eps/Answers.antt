@@ -2,7 +2,6 @@ use mathlib.Core.Path.{sym, ◌∙◌}
 use borrow.Author.Tests.{ne_eqb}
 use Rattle.nas_5gs.proofs.Passed.{open-eps-passed}
 use Rattle.nas_5gs.specs.Eps.{open_eps_of}
-use borrow.Author.Rules.{rules}
 use Rattle.nas_5gs.proofs.Context.open_eps.Goals as goal
 
 pub returns-then-n-ne0 : goal.returns-then-n-ne0

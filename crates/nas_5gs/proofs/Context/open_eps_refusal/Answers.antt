@@ -1,7 +1,6 @@
 use mathlib.Core.Path.{sym, ◌∙◌}
 use borrow.Author.Tests.{lt-ltb, le-ltb, eq-eqb, ne_eqb}
 use Rattle.nas_5gs.specs.Eps.{open_eps_refusal}
-use borrow.Author.Rules.{rules}
 use Rattle.nas_5gs.proofs.Context.open_eps_refusal.Goals as goal
 
 pub returns-then-n-ne0 : goal.returns-then-n-ne0

@@ -2,7 +2,6 @@ use Rattle.envelope.proofs.Lengths.{envelope-length}
 use Rattle.nas_5gs.specs.Places.{next_at}
 use Rattle.nas_5gs.specs.Leaves.{use_next}
 use Rattle.nas_5gs.specs.Seal.{sent}
-use borrow.Author.Rules.{rules}
 use Rattle.nas_5gs.proofs.Context.send.Goals as goal
 
 pub returns : goal.returns

@@ -2,7 +2,6 @@ use Rattle.envelope.proofs.Lengths.{initial-length}
 use Rattle.nas_5gs.specs.Places.{next_at}
 use Rattle.nas_5gs.specs.Leaves.{use_next}
 use Rattle.nas_5gs.specs.Initial.{sent_initial}
-use borrow.Author.Rules.{rules}
 use Rattle.nas_5gs.proofs.Context.send_initial.Goals as goal
 
 pub returns : goal.returns

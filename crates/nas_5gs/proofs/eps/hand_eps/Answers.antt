@@ -1,5 +1,4 @@
 use mathlib.Core.Path.{sym, ◌∙◌}
-use borrow.Author.Rules.{rules}
 use Rattle.nas_5gs.proofs.eps.hand_eps.Goals as goal
 
 pub returns-then-not_eps : goal.returns-then-not_eps

@@ -1,6 +1,5 @@
 use mathlib.Core.Path.{sym, ◌∙◌}
 use Rattle.nas_5gs.proofs.Handed.{by-refused, by-handed}
-use borrow.Author.Rules.{rules}
 use Rattle.nas_5gs.proofs.open.answered.Goals as goal
 
 pub returns-in-Refused : goal.returns-in-Refused

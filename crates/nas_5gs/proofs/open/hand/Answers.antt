@@ -5,7 +5,6 @@ use Rattle.look.specs.Look.{look_of}
 use Rattle.envelope.specs.Initial.{beside_of, beside}
 use Rattle.nas_5gs.specs.Open.{inside_number, open_answer}
 use Rattle.nas_5gs.proofs.Handed.{nothing, content, kept}
-use borrow.Author.Rules.{rules}
 use Rattle.nas_5gs.proofs.open.hand.Goals as goal
 
 pub returns-then-number-ne0 : goal.returns-then-number-ne0

@@ -1,13 +1,11 @@
 use borrow.Author.Tests.{eq-eqb, ne_eqb}
-use mathlib.Core.Path.{◌≡◌, refl, ap, ◌∙◌}
-use mathlib.Core.Bool.{Bool, true, false, cond, ◌&&◌}
+use mathlib.Core.Path.{◌≡◌, refl}
+use mathlib.Core.Bool.{Bool, true, false, ◌&&◌}
 use mathlib.Core.List.{List, [], ◌∷◌}
 use native.Mathlib.Omega.{arith}
-use Prim.Native.Nat.{ℕ, suc, ◌<◌, min, ◌%◌}
-use lib.Dec.{eqb}
+use Prim.Native.Nat.{ℕ, ◌<◌}
 use lib.ListN.{length, get_or}
-use Rattle.nas_5gs.specs.Open.{type_of, room_for}
-use borrow.Author.Rules.{rules}
+use Rattle.nas_5gs.specs.Open.{room_for}
 use Rattle.nas_5gs.proofs.open.room_for.Goals as goal
 
 -- under two octets there is no header type

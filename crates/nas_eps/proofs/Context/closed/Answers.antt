@@ -1,6 +1,5 @@
 use Rattle.count.proofs.Starts.{close-is}
 use Rattle.nas_eps.specs.Changes.{closed}
-use borrow.Author.Rules.{rules}
 use Rattle.nas_eps.proofs.Context.closed.Goals as goal
 
 pub returns : goal.returns

@@ -1,7 +1,6 @@
 use mathlib.Core.Path.{sym, ◌∙◌}
 use borrow.Author.Tests.{ne_eqb}
 use Rattle.nas_eps.specs.Places.{fault_of}
-use borrow.Author.Rules.{rules}
 use Rattle.nas_eps.proofs.Context.fault.Goals as goal
 
 pub returns-then-n-ne0 : goal.returns-then-n-ne0

@@ -1,6 +1,5 @@
 use mathlib.Core.Path.{sym, ◌∙◌}
 use Rattle.nas_eps.specs.Changes.{kept_for}
-use borrow.Author.Rules.{rules}
 use Rattle.nas_eps.proofs.Context.kept_for.Goals as goal
 
 pub returns-then-away_from_null : goal.returns-then-away_from_null

@@ -1,6 +1,5 @@
 use mathlib.Core.Path.{sym, ◌∙◌}
 use Rattle.nas_eps.specs.Changes.{new_of}
-use borrow.Author.Rules.{rules}
 use Rattle.nas_eps.proofs.Context.new.Goals as goal
 
 pub returns-then-is_unbuilt : goal.returns-then-is_unbuilt

@@ -1,5 +1,4 @@
 use mathlib.Core.Path.{sym}
-use borrow.Author.Rules.{rules}
 use Rattle.nas_eps.proofs.Context.next_count.Goals as goal
 
 pub returns : goal.returns

@@ -3,7 +3,6 @@ use native.Mathlib.Omega.{arith}
 use borrow.Author.Tests.{ne_eqb}
 use Rattle.nas_eps.proofs.Passed.{open-passed, form-passed, request-form, message-form}
 use Rattle.nas_eps.specs.Open.{open_of}
-use borrow.Author.Rules.{rules}
 use Rattle.nas_eps.proofs.Context.open.Goals as goal
 
 pub returns-then-n-ne0 : goal.returns-then-n-ne0

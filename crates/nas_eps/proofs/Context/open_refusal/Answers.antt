@@ -3,7 +3,6 @@ use native.Mathlib.Omega.{arith}
 use borrow.Author.Tests.{ne_eqb}
 use Rattle.nas_eps.proofs.Passed.{form-passed, message-form, first_one}
 use Rattle.nas_eps.specs.Open.{open_refusal}
-use borrow.Author.Rules.{rules}
 use Rattle.nas_eps.proofs.Context.open_refusal.Goals as goal
 
 pub returns-then-n-ne0 : goal.returns-then-n-ne0

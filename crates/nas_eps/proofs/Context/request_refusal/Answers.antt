@@ -1,7 +1,6 @@
 use mathlib.Core.Path.{sym, ◌∙◌}
 use borrow.Author.Tests.{lt-ltb, le-ltb, le-leb, lt-leb, ne_eqb}
 use Rattle.nas_eps.specs.Seal.{request_refusal}
-use borrow.Author.Rules.{rules}
 use Rattle.nas_eps.proofs.Context.request_refusal.Goals as goal
 
 pub returns-then-n-ne0 : goal.returns-then-n-ne0

@@ -1,5 +1,4 @@
 use Rattle.nas_eps.specs.Changes.{resized}
-use borrow.Author.Rules.{rules}
 use Rattle.nas_eps.proofs.Context.resized.Goals as goal
 
 pub returns : goal.returns

@@ -2,7 +2,6 @@ use Rattle.nas_eps.proofs.Lengths.{message-length}
 use Rattle.nas_eps.specs.Places.{next_at}
 use Rattle.nas_eps.specs.Leaves.{use_next}
 use Rattle.nas_eps.specs.Seal.{sent}
-use borrow.Author.Rules.{rules}
 use Rattle.nas_eps.proofs.Context.send.Goals as goal
 
 pub returns : goal.returns

@@ -1,5 +1,4 @@
 use Rattle.nas_eps.specs.Places.{used}
-use borrow.Author.Rules.{rules}
 use Rattle.nas_eps.proofs.Context.used.Goals as goal
 
 pub returns : goal.returns

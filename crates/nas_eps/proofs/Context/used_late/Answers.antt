@@ -1,5 +1,4 @@
 use Rattle.nas_eps.specs.Places.{used_late}
-use borrow.Author.Rules.{rules}
 use Rattle.nas_eps.proofs.Context.used_late.Goals as goal
 
 pub returns : goal.returns

@@ -1,4 +1,3 @@
-use borrow.Author.Rules.{rules}
 use Rattle.nas_eps.proofs.change.context_with.Goals as goal
 
 pub returns : goal.returns

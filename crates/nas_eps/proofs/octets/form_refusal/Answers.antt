@@ -1,7 +1,6 @@
 use mathlib.Core.Path.{sym, ◌∙◌}
 use borrow.Author.Tests.{eq-eqb, ne_eqb}
 use Rattle.nas_eps.specs.Open.{form_refusal}
-use borrow.Author.Rules.{rules}
 use Rattle.nas_eps.proofs.octets.form_refusal.Goals as goal
 
 pub returns-then-message-eq0 : goal.returns-then-message-eq0

@@ -1,5 +1,4 @@
 use mathlib.Core.Path.{sym, ◌∙◌}
-use borrow.Author.Rules.{rules}
 use Rattle.nas_eps.proofs.octets.is_other_type.Goals as goal
 
 pub returns-then-is_wrong_type : goal.returns-then-is_wrong_type

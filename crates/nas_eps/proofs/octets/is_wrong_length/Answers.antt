@@ -1,5 +1,4 @@
 use mathlib.Core.Path.{sym, ◌∙◌}
-use borrow.Author.Rules.{rules}
 use Rattle.nas_eps.proofs.octets.is_wrong_length.Goals as goal
 
 pub returns-then-is_request : goal.returns-then-is_request

@@ -10,7 +10,6 @@ use Rattle.nas_core.proofs.Keys.{payload-length, protected-length}
 use Rattle.nas_core.specs.Keyed.{payload, protected}
 use Rattle.nas_core.specs.Types.{ciphers}
 use Rattle.nas_eps.specs.Octets.{message}
-use borrow.Author.Rules.{rules}
 use Rattle.nas_eps.proofs.octets.put.Goals.{After-copy, After-seal}
 use Rattle.nas_eps.proofs.octets.put.Goals as goal
 

@@ -10,7 +10,6 @@ use Rattle.nas_core.specs.Leaves.{read_as}
 use Rattle.nas_core.proofs.Keys.{payload-length}
 use Rattle.nas_core.proofs.Taken.{front_read}
 use Rattle.nas_eps.specs.Octets.{type_of}
-use borrow.Author.Rules.{rules}
 use Rattle.nas_eps.proofs.octets.verify.Goals as goal
 
 pub slice_bounds-verify-end-2 : goal.slice_bounds-verify-end-2

@@ -5,7 +5,6 @@ use lib.ListN.{length}
 use lib.Seq.{length-take-le}
 use Rattle.nas_core.proofs.Octets.{rest}
 use Rattle.nas_eps.specs.Octets.{short_code, short_fits}
-use borrow.Author.Rules.{rules}
 use Rattle.nas_eps.proofs.request.fits.Goals as goal
 
 pub returns-then-wraps : goal.returns-then-wraps

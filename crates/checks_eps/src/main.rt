@@ -1,5 +1,6 @@
 // Runs request 6's session over the calls of the EPS context, and messages at the limit, and prints each answer as the request's hex lines do.
 #![tactic(auto)]
+
 use nas_eps::{
     ChangeAnswer, ChangeDone, Context, Direction, OpenAnswer, OpenDone, UseAnswer, UseDone,
 };

@@ -9,7 +9,7 @@ use Rattle.nas_5gs.proofs.Context.receive.Goals as goal
 
 pub distance_to-far-requires : goal.distance_to-far-requires
 distance_to-far-requires c =
-    late-near _ _ (late-chosen _ _ _ _ _ _ _ (c.shared_slice_known-1.given 6).fits c.requires.1 (sym c.read-choice.ensures.opening ∙ c.in-Late.is)).1
+    late-near _ _ (late-chosen _ _ _ _ _ _ _ (search rules) c.requires.1 (sym c.read-choice.ensures.opening ∙ c.in-Late.is)).1
 
 pub slice_bounds-hand-end-in-Late : goal.slice_bounds-hand-end-in-Late
 slice_bounds-hand-end-in-Late c =
@@ -29,11 +29,11 @@ hand-answer-requires c =
 
 pub used_late-requires : goal.used_late-requires
 used_late-requires c =
-    let l = late-chosen _ _ _ _ _ _ _ (c.shared_slice_known-1.given 6).fits c.requires.1 (sym c.read-choice.ensures.opening ∙ c.in-Late.is) in (search rules, l.0, l.1)
+    let l = late-chosen _ _ _ _ _ _ _ (search rules) c.requires.1 (sym c.read-choice.ensures.opening ∙ c.in-Late.is) in (search rules, l.0, l.1)
 
 pub distance_to-far-requires-in-Forward : goal.distance_to-far-requires-in-Forward
 distance_to-far-requires-in-Forward c =
-    ahead-near _ _ (forward-chosen _ _ _ _ _ _ _ (c.shared_slice_known-1.given 6).fits (sym c.read-choice.ensures.opening ∙ c.in-Forward.is)).2
+    ahead-near _ _ (forward-chosen _ _ _ _ _ _ _ (search rules) (sym c.read-choice.ensures.opening ∙ c.in-Forward.is)).2
 
 pub slice_bounds-hand-end-in-Forward-2 : goal.slice_bounds-hand-end-in-Forward-2
 slice_bounds-hand-end-in-Forward-2 c =
@@ -53,7 +53,7 @@ hand-answer-requires-in-Forward c =
 
 pub used-requires : goal.used-requires
 used-requires c =
-    let f = forward-chosen _ _ _ _ _ _ _ (c.shared_slice_known-1.given 6).fits (sym c.read-choice.ensures.opening ∙ c.in-Forward.is) in (search rules, f.0, c.requires.1, f.1)
+    let f = forward-chosen _ _ _ _ _ _ _ (search rules) (sym c.read-choice.ensures.opening ∙ c.in-Forward.is) in (search rules, f.0, c.requires.1, f.1)
 
 pub returns-in-None : goal.returns-in-None
 unfolding opened

@@ -10,19 +10,19 @@ use Rattle.nas_5gs.proofs.Context.receive_eps.Goals as goal
 
 pub distance_to-requires : goal.distance_to-requires
 distance_to-requires c =
-    late-near _ _ (late-chosen _ _ _ _ _ _ _ (c.shared_slice_known-1.given 5).fits c.requires.0 (sym c.read_eps-choice.ensures.opening ∙ c.in-Late.is)).1
+    late-near _ _ (late-chosen _ _ _ _ _ _ _ (search rules) c.requires.0 (sym c.read_eps-choice.ensures.opening ∙ c.in-Late.is)).1
 
 pub used_late-requires : goal.used_late-requires
 used_late-requires c =
-    let l = late-chosen _ _ _ _ _ _ _ (c.shared_slice_known-1.given 5).fits c.requires.0 (sym c.read_eps-choice.ensures.opening ∙ c.in-Late.is) in (search rules, l.0, l.1)
+    let l = late-chosen _ _ _ _ _ _ _ (search rules) c.requires.0 (sym c.read_eps-choice.ensures.opening ∙ c.in-Late.is) in (search rules, l.0, l.1)
 
 pub distance_to-requires-in-Forward : goal.distance_to-requires-in-Forward
 distance_to-requires-in-Forward c =
-    ahead-near _ _ (forward-chosen _ _ _ _ _ _ _ (c.shared_slice_known-1.given 5).fits (sym c.read_eps-choice.ensures.opening ∙ c.in-Forward.is)).2
+    ahead-near _ _ (forward-chosen _ _ _ _ _ _ _ (search rules) (sym c.read_eps-choice.ensures.opening ∙ c.in-Forward.is)).2
 
 pub used-requires : goal.used-requires
 used-requires c =
-    let f = forward-chosen _ _ _ _ _ _ _ (c.shared_slice_known-1.given 5).fits (sym c.read_eps-choice.ensures.opening ∙ c.in-Forward.is) in (search rules, f.0, c.requires.0, f.1)
+    let f = forward-chosen _ _ _ _ _ _ _ (search rules) (sym c.read_eps-choice.ensures.opening ∙ c.in-Forward.is) in (search rules, f.0, c.requires.0, f.1)
 
 pub returns-in-None : goal.returns-in-None
 unfolding eps_opened

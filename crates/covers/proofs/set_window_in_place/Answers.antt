@@ -1,8 +1,0 @@
-use mathlib.Core.Path.{ap}
-use Rattle.nas_5gs.specs.Leaves.{change_values}
-use Rattle.promises.specs.Calls.{outcome}
-use Rattle.covers.proofs.set_window_in_place.Goals as goal
-
-pub returns : goal.returns
-returns c =
-    ap (outcome change_values) c.set_window.ensures

@@ -1,8 +1,0 @@
-use mathlib.Core.Path.{ap}
-use Rattle.nas_5gs.specs.Leaves.{use_values}
-use Rattle.promises.specs.Calls.{outcome}
-use Rattle.covers.proofs.verify_s1_to_n1.Goals as goal
-
-pub returns : goal.returns
-returns c =
-    ap (outcome use_values) c.verify_s1_to_n1_container.ensures

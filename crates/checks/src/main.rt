@@ -1,5 +1,6 @@
 // Runs document 01's list "Run and compared", the pairing of header types and messages, and messages at the limit, and prints what each call answers: 0 for a success, else the refusal's number.
 #![tactic(auto)]
+
 use nas_5gs::{
     ChangeAnswer, ChangeDone, Connection, Context, Direction, EpsOpenAnswer, EpsOpenDone,
     OpenAnswer, OpenDone, UseAnswer, UseDone,

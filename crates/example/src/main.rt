@@ -1,5 +1,6 @@
 // The example of README.md, which quotes `send` and `main` as they stand here: two messages sealed for the air.
 #![tactic(auto)]
+
 use nas_5gs::{ChangeAnswer, Connection, Context, Direction, UseAnswer};
 
 const INTEGRITY_KEY: [u8; 16] = [0, 1, 2, 3, 4, 5, 6, 7, 8, 9, 10, 11, 12, 13, 14, 15];

@@ -1,6 +1,5 @@
 use native.Mathlib.Omega.{arith}
 use lib.ListN.{length-take}
-use borrow.Author.Rules.{rules}
 use Rattle.checks.proofs.opaque_then_open.Goals as goal
 
 pub slice_bounds-open-end : goal.slice_bounds-open-end

@@ -2,7 +2,6 @@ use mathlib.Core.Path.{◌≡◌}
 use borrow.Author.Tests.{le-leb, lt-leb, eq-eqb, ne_eqb}
 use mathlib.Core.Bool.{Bool, true, false, not, ◌&&◌, ◌||◌}
 use Rattle.envelope.specs.Eps.{not_eps}
-use borrow.Author.Rules.{rules}
 use Rattle.envelope.proofs.not_eps.Goals as goal
 
 last : (a b c d : Bool) → a ≡ true → b ≡ true → c ≡ false → not d ≡ not (a && b && (c || d))

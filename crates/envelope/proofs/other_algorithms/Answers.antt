@@ -1,6 +1,5 @@
 use borrow.Author.Tests.{eq-eqb, ne_eqb}
 use Rattle.envelope.specs.Containers.{other_algorithms}
-use borrow.Author.Rules.{rules}
 use Rattle.envelope.proofs.other_algorithms.Goals as goal
 
 pub returns-then-value-core : goal.returns-then-value-core

@@ -6,7 +6,6 @@ use lib.ListN.{length, length-take, length-drop}
 use Rattle.envelope.proofs.Lengths.{envelope-length}
 use Rattle.envelope.proofs.Wrapped.{front_length, behind, wrapped}
 use Rattle.envelope.specs.Envelope.{envelope}
-use borrow.Author.Rules.{rules}
 use Rattle.envelope.proofs.put.Goals.{After-copy}
 use Rattle.envelope.proofs.put.Goals as goal
 

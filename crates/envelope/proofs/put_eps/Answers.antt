@@ -8,7 +8,6 @@ use Rattle.nas_core.proofs.Written.{mid-length, inside, sealed}
 use Rattle.nas_core.proofs.Keys.{protected-length}
 use Rattle.nas_core.specs.Keyed.{protected}
 use Rattle.envelope.specs.Eps.{eps_message}
-use borrow.Author.Rules.{rules}
 use Rattle.envelope.proofs.put_eps.Goals.{After-protect}
 use Rattle.envelope.proofs.put_eps.Goals as goal
 

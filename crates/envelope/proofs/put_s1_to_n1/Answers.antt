@@ -8,7 +8,6 @@ use Rattle.nas_core.proofs.Octets.{joined, stored-behind}
 use lib.Seq.{sets, take_at}
 use Rattle.envelope.proofs.Lengths.{s1-length}
 use Rattle.envelope.specs.Containers.{s1_value, s1_count, s1_to_n1}
-use borrow.Author.Rules.{rules}
 use Rattle.envelope.proofs.put_s1_to_n1.Goals as goal
 
 pub bounds-out-5 : goal.bounds-out-5

@@ -10,7 +10,6 @@ use Rattle.nas_core.specs.Leaves.{read_as}
 use Rattle.nas_core.proofs.Keys.{payload-length}
 use Rattle.nas_core.proofs.Taken.{front_read}
 use Rattle.envelope.specs.Envelope.{ciphers}
-use borrow.Author.Rules.{rules}
 use Rattle.envelope.proofs.read.Goals as goal
 
 pub slice_bounds-verify-end-2 : goal.slice_bounds-verify-end-2

@@ -5,7 +5,6 @@ use lib.ListN.{length, drop, length-take, length-drop}
 use lib.Seq.{length-take-le}
 use Rattle.nas_core.specs.Keyed.{payload}
 use Rattle.nas_core.proofs.Taken.{front_read}
-use borrow.Author.Rules.{rules}
 use Rattle.envelope.proofs.read_eps.Goals as goal
 
 pub slice_bounds-verify-end-2 : goal.slice_bounds-verify-end-2

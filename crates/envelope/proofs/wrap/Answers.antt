@@ -1,4 +1,4 @@
-use mathlib.Core.Path.{◌≡◌, ap, sym, ◌∙◌}
+use mathlib.Core.Path.{◌≡◌, ap, ◌∙◌}
 use mathlib.Core.Bool.{Bool}
 use mathlib.Core.List.{List, [], ◌∷◌, ◌++◌, append-nil}
 use native.Mathlib.Omega.{arith}
@@ -10,7 +10,6 @@ use Rattle.nas_core.proofs.Octets.{rest, stored}
 use Rattle.nas_core.proofs.Keys.{payload-length, protected-length}
 use Rattle.nas_core.specs.Keyed.{payload, protected}
 use Rattle.envelope.specs.Envelope.{ciphers, envelope}
-use borrow.Author.Rules.{rules}
 use Rattle.envelope.proofs.wrap.Goals as goal
 
 -- two octets in front of what is behind two

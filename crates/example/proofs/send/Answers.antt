@@ -1,6 +1,7 @@
 use Prim.Native.Nat.{◌≤◌}
 use mathlib.Core.Path.{sym}
 use lib.Seq.{length-take-le}
+use native.Mathlib.Omega.{arith}
 use Rattle.promises.proofs.Lent.{seal-within}
 use borrow.Author.Rules.{rules}
 use Rattle.example.proofs.send.Goals as goal
@@ -12,4 +13,5 @@ slice_bounds-out-end c =
 
 pub slice_bounds-transmit-end : goal.slice_bounds-transmit-end
 slice_bounds-transmit-end c =
-    sym (length-take-le _ _ (array-share-prefix-out c))
+    let fits : c.in-Used.wrote ≤ 64 = seal-within _ _ _ _ _ _ _ _ _ _ (rw c.in-Used.is at c.seal-sent.ensures) in
+    sym (length-take-le _ _ (omega (arith, fits, c.seal-sent.auto.out)))

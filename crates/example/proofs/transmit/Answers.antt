@@ -1,6 +1,5 @@
 use native.Mathlib.Omega.{arith}
 use lib.ListN.{length-take}
-use borrow.Author.Rules.{rules}
 use Rattle.example.proofs.transmit.Goals as goal
 
 pub slice_bounds-write_all-end : goal.slice_bounds-write_all-end

@@ -1,9 +1,9 @@
-use Prim.Native.Nat.{◌≤◌, ◌<◌, ◌-◌}
+use Prim.Native.Nat.{◌<◌}
 use native.Mathlib.Omega.{arith}
 use native.Mathlib.Numerals.{add-one}
 use mathlib.Core.Path.{◌≡◌, refl, sym, ◌∙◌}
 use borrow.Author.Rules.{rules}
-use lib.ListN.{length, take, get_or, length-set}
+use lib.ListN.{length, get_or, length-set}
 use lib.Seq.{take-suc, take-suc-set, take_all}
 use Rattle.nas_core.proofs.copy.Goals as goal
 

@@ -1,10 +1,6 @@
-use Prim.Native.Nat.{◌≤◌, ◌<◌, ◌-◌}
-use native.Mathlib.Omega.{arith}
-use native.Mathlib.Numerals.{add-one}
-use mathlib.Core.Path.{◌≡◌, refl, sym, ◌∙◌}
-use borrow.Author.Rules.{rules}
-use lib.ListN.{length, take, get_or, length-set}
-use lib.Seq.{take-suc, take-suc-set, take_all}
+use Prim.Native.Nat.{◌≤◌, ◌-◌}
+use mathlib.Core.Path.{◌≡◌}
+use lib.ListN.{length, take}
 use Rattle.nas_core.proofs.copy.Given as goal
 
 abbrev pub invariant-loop-i : goal.invariant-loop-i

@@ -1,5 +1,4 @@
 use borrow.Author.Tests.{lt-ltb, le-ltb}
-use borrow.Author.Rules.{rules}
 use Rattle.nas_core.proofs.hand_refusal.Goals as goal
 
 pub returns-then-inner-gt-LIMIT : goal.returns-then-inner-gt-LIMIT

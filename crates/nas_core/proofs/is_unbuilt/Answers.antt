@@ -1,6 +1,5 @@
 use mathlib.Core.Path.{sym, ◌∙◌}
 use Rattle.nas_core.specs.Refusals.{unbuilt}
-use borrow.Author.Rules.{rules}
 use Rattle.nas_core.proofs.is_unbuilt.Goals as goal
 
 pub returns-then-built : goal.returns-then-built

@@ -1,8 +1,7 @@
-use mathlib.Core.Path.{◌≡◌, sym, ap, ◌∙◌}
+use mathlib.Core.Path.{sym, ap, ◌∙◌}
 use lib.Seq.{length-take-le}
 use Rattle.initial.specs.Inside.{is_inside}
 use Rattle.envelope.proofs.Insides.{decided}
-use borrow.Author.Rules.{rules}
 use Rattle.envelope.proofs.hidden.has_type.Goals as goal
 
 pub slice_bounds-fill-end : goal.slice_bounds-fill-end

@@ -2,7 +2,6 @@ use mathlib.Core.Path.{sym, ◌∙◌}
 use Rattle.initial.specs.Inside.{hidden_of}
 use Rattle.envelope.proofs.Insides.{asked_is}
 use Rattle.envelope.specs.Initial.{beside_of}
-use borrow.Author.Rules.{rules}
 use Rattle.envelope.proofs.hidden.read_beside.Goals as goal
 
 pub read_inside-requires : goal.read_inside-requires

@@ -1,9 +1,8 @@
-use mathlib.Core.Path.{◌≡◌, refl, sym, ap, ◌∙◌}
-use mathlib.Core.Bool.{Bool, true, false}
+use mathlib.Core.Path.{◌≡◌, sym, ◌∙◌}
+use mathlib.Core.Bool.{true, false}
 use mathlib.Core.List.{List, ◌++◌}
-use native.Mathlib.Omega.{arith}
 use Prim.Native.Nat.{ℕ}
-use lib.ListN.{length, drop, length-take}
+use lib.ListN.{length, drop}
 use lib.Seq.{length-take-le}
 use Rattle.initial.specs.Inside.{is_inside, of_type}
 use Rattle.nas_core.specs.Leaves.{over}
@@ -11,7 +10,6 @@ use Rattle.nas_core.proofs.Keys.{payload-length}
 use Rattle.envelope.specs.declared.Inside.TheVariants.{Refused, Handed}
 use Rattle.envelope.specs.Initial.{beside, told}
 use Rattle.envelope.proofs.Insides.{short}
-use borrow.Author.Rules.{rules}
 use Rattle.envelope.proofs.hidden.take_inside.Goals as goal
 
 refused : (p q out : List ℕ) → is_inside p q ≡ false → (Refused ≡ told (of_type p q)) × (out ≡ over (beside (of_type p q)) out)

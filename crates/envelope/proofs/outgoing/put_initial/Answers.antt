@@ -7,7 +7,6 @@ use Rattle.envelope.proofs.Lengths.{initial-length}
 use Rattle.envelope.proofs.Wrapped.{front_length, behind, wrapped}
 use Rattle.envelope.specs.Envelope.{envelope}
 use Rattle.envelope.specs.Initial.{initial_envelope}
-use borrow.Author.Rules.{rules}
 use Rattle.envelope.proofs.outgoing.put_initial.Goals.{After-put_outgoing}
 use Rattle.envelope.proofs.outgoing.put_initial.Goals as goal
 

@@ -1,4 +1,4 @@
-use mathlib.Core.Path.{◌≡◌, refl, ap, sym, ◌∙◌}
+use mathlib.Core.Path.{◌≡◌, ap, sym, ◌∙◌}
 use mathlib.Core.Bool.{true}
 use mathlib.Core.List.{List, ◌++◌, append-nil}
 use native.Mathlib.Omega.{arith}
@@ -11,7 +11,6 @@ use Rattle.nas_core.specs.Keyed.{payload}
 use Rattle.nas_core.proofs.Keys.{payload-length}
 use Rattle.nas_core.proofs.Octets.{joined}
 use Rattle.envelope.specs.Initial.{outgoing}
-use borrow.Author.Rules.{rules}
 use Rattle.envelope.proofs.outgoing.put_outgoing.Goals.{After-mandatory_length-start}
 use Rattle.envelope.proofs.outgoing.put_outgoing.Goals as goal
 

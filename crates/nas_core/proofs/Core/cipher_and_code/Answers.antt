@@ -1,10 +1,8 @@
-use mathlib.Core.Path.{◌≡◌, ap, sym, ◌∙◌}
+use mathlib.Core.Path.{ap, sym, ◌∙◌}
 use mathlib.Core.Bool.{Bool}
-use mathlib.Core.List.{List, ◌++◌}
-use Prim.Native.Nat.{ℕ}
+use mathlib.Core.List.{◌++◌}
 use lib.ListN.{take, drop, take-append-drop}
 use Rattle.nas_core.specs.Keyed.{code_by, payload}
-use borrow.Author.Rules.{rules}
 use Rattle.nas_core.proofs.Core.cipher_and_code.Goals as goal
 
 pub returns-then-ciphered : goal.returns-then-ciphered

@@ -1,7 +1,6 @@
 use mathlib.Core.Path.{sym, ◌∙◌}
 use borrow.Author.Tests.{lt-ltb, le-ltb}
 use Rattle.nas_core.specs.Refusals.{core_fault}
-use borrow.Author.Rules.{rules}
 use Rattle.nas_core.proofs.Core.fault.Goals as goal
 
 pub returns-then-is_unbuilt : goal.returns-then-is_unbuilt

@@ -1,5 +1,4 @@
 use Rattle.nas_core.specs.Keyed.{payload}
-use borrow.Author.Rules.{rules}
 use Rattle.nas_core.proofs.Core.fill.Goals as goal
 
 pub returns-then-ciphered : goal.returns-then-ciphered

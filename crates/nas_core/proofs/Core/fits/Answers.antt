@@ -1,9 +1,8 @@
 use mathlib.Core.Path.{◌≡◌, sym, ◌∙◌}
-use Rattle.nas_core.proofs.Octets.{four, rest}
+use Rattle.nas_core.proofs.Octets.{rest}
 use Prim.Native.Nat.{◌+◌, ◌-◌}
 use native.Mathlib.Omega.{arith}
 use Rattle.nas_core.specs.Verify.{fits}
-use borrow.Author.Rules.{rules}
 use Rattle.nas_core.proofs.Core.fits.Goals as goal
 
 pub returns-then-wraps : goal.returns-then-wraps

@@ -1,4 +1,3 @@
-use borrow.Author.Rules.{rules}
 use Rattle.nas_core.proofs.Core.forward.Goals as goal
 
 pub returns : goal.returns

@@ -1,5 +1,4 @@
 use mathlib.Core.Path.{sym, ◌∙◌}
-use borrow.Author.Rules.{rules}
 use Rattle.nas_core.proofs.Core.late.Goals as goal
 
 pub returns-then-wraps : goal.returns-then-wraps

@@ -1,5 +1,4 @@
 use Rattle.nas_core.specs.Keyed.{payload}
-use borrow.Author.Rules.{rules}
 use Rattle.nas_core.proofs.Core.protect.Goals as goal
 
 pub returns : goal.returns

@@ -6,7 +6,6 @@ use borrow.Rule.Slice.PartMut.{put_mid, same_len_mid}
 use Rattle.nas_core.proofs.Octets.{stored-behind, rest, rest_back, joined}
 use Prim.Native.Nat.{ℕ, ◌%◌, ◌-◌, ◌≤◌}
 use Rattle.nas_core.specs.Keyed.{payload, protected, code_by}
-use borrow.Author.Rules.{rules}
 use Rattle.nas_core.proofs.Core.seal.Goals.{After-cipher_and_code-code}
 use Rattle.nas_core.proofs.Core.seal.Goals as goal
 

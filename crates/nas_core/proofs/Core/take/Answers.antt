@@ -6,7 +6,6 @@ use lib.ListN.{drop}
 use Rattle.algorithms.proofs.Tests.{twos}
 use Rattle.nas_core.specs.Keyed.{payload}
 use Rattle.nas_core.proofs.Octets.{rest}
-use borrow.Author.Rules.{rules}
 use Rattle.nas_core.proofs.Core.take.Goals as goal
 
 pub take_aes-requires : goal.take_aes-requires

@@ -4,7 +4,6 @@ use Prim.Native.Nat.{ℕ, ◌+◌}
 use Rattle.aes.specs.Keys.{nea2_by}
 use Rattle.nas_core.proofs.Octets.{rest}
 use Rattle.nas_core.proofs.Taken.{compared-fits, read-aes}
-use borrow.Author.Rules.{rules}
 use Rattle.nas_core.proofs.Core.take_aes.Goals as goal
 
 pub returns-then-is_code : goal.returns-then-is_code

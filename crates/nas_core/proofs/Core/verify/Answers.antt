@@ -1,7 +1,6 @@
 use mathlib.Core.Path.{sym, ◌∙◌}
 use Rattle.count.specs.Rule.{opening}
 use Rattle.nas_core.specs.Verify.{verify_of}
-use borrow.Author.Rules.{rules}
 use Rattle.nas_core.proofs.Core.verify.Goals as goal
 
 pub returns-in-Nothing : goal.returns-in-Nothing

@@ -1,5 +1,4 @@
 use mathlib.Core.Path.{refl, sym, ◌∙◌}
-use borrow.Author.Rules.{rules}
 use Rattle.nas_core.proofs.Core.verify_forward.Goals as goal
 
 pub returns-in-Nothing : goal.returns-in-Nothing

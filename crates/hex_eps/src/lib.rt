@@ -1,5 +1,6 @@
 // A call performed on an EPS context: which function of nas_eps is called with which numbers, and its answer as one value and as a line.
 #![tactic(auto)]
+
 ghost use Rattle.std.specs.Prelude.{◌≡◌};
 ghost use Rattle.nas_eps.specs.Leaves.{leaves};
 ghost use Rattle.hex_eps.specs.Answers.{change_answer, use_answer, open_answer};

@@ -1,5 +1,6 @@
 // A call performed on a context: which function of nas_5gs is called with which numbers, and its answer as one value.
 #![tactic(auto)]
+
 ghost use Rattle.std.specs.Prelude.{◌≡◌, length, replicate};
 ghost use Rattle.nas_5gs.specs.Leaves.{leaves_two};
 ghost use Rattle.hex_perform.specs.Answers.{change_answer, use_answer, octet_answer, open_answer, across_answer, eps_answer, verify_answer};

@@ -1,6 +1,5 @@
 use Rattle.hex_eps.proofs.Laws as laws
 use Rattle.hex_eps.specs.Perform.{perform_of}
-use borrow.Author.Rules.{rules}
 use Rattle.hex_eps.proofs.perform.Goals as goal
 
 pub returns-then-line : goal.returns-then-line

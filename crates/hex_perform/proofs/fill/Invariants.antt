@@ -1,10 +1,7 @@
 use Prim.Native.Nat.{◌-◌, ◌≤◌}
 use mathlib.Core.Path.{◌≡◌}
-use native.Mathlib.Omega.{arith}
-use borrow.Author.Rules.{rules}
-use lib.ListN.{length, replicate, length-set}
-use lib.Seq.{paste, paste-zero}
-use Rattle.hex_perform.proofs.Laws as laws
+use lib.ListN.{length, replicate}
+use lib.Seq.{paste}
 use Rattle.hex_perform.proofs.fill.Given as goal
 
 abbrev pub invariant-loop-i : goal.invariant-loop-i

@@ -1,6 +1,5 @@
 use Rattle.hex_print.specs.Lines.{answer_text}
 use native.Mathlib.Omega.{arith}
-use borrow.Author.Rules.{rules}
 use Rattle.hex_print.proofs.answer_text.Goals as goal
 
 pub returns-in-Bad : goal.returns-in-Bad

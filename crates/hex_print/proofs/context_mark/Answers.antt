@@ -1,7 +1,6 @@
 use Rattle.hex_print.specs.Lines.{context_text}
 use native.Mathlib.Omega.{arith}
 use Rattle.hex_print.proofs.Laws as laws
-use borrow.Author.Rules.{rules}
 use Rattle.hex_print.proofs.context_mark.Goals as goal
 
 pub returns-then-is_changed : goal.returns-then-is_changed

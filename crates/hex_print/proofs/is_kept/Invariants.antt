@@ -1,10 +1,7 @@
 use Prim.Native.Nat.{◌-◌, ◌≤◌}
 use mathlib.Core.Path.{◌≡◌}
-use native.Mathlib.Omega.{arith}
-use borrow.Author.Rules.{rules}
 use lib.ListN.{length, drop}
 use Rattle.hex_print.specs.Lines.{is_kept}
-use Rattle.hex_print.proofs.Laws as laws
 use Rattle.hex_print.proofs.is_kept.Given as goal
 
 abbrev pub invariant-loop-i : goal.invariant-loop-i

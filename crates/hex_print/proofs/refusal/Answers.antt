@@ -1,6 +1,5 @@
 use native.Mathlib.Omega.{arith}
 use Rattle.hex_print.proofs.Laws as laws
-use borrow.Author.Rules.{rules}
 use Rattle.hex_print.proofs.refusal.Goals as goal
 
 pub returns : goal.returns

@@ -1,4 +1,3 @@
-use borrow.Author.Rules.{rules}
 use Rattle.hex_print.proofs.second.Goals as goal
 
 pub returns-in-Opened : goal.returns-in-Opened

@@ -1,7 +1,6 @@
 use Rattle.hex_print.specs.Lines.{second_text}
 use native.Mathlib.Omega.{arith}
 use Rattle.hex_print.proofs.Laws as laws
-use borrow.Author.Rules.{rules}
 use Rattle.hex_print.proofs.second_text.Goals as goal
 
 pub returns-in-Bad : goal.returns-in-Bad

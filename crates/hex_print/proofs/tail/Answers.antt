@@ -2,7 +2,6 @@ use mathlib.Core.Path.{sym, ◌∙◌}
 use Rattle.hex_print.specs.Lines.{tail_text}
 use native.Mathlib.Omega.{arith}
 use Rattle.hex_print.proofs.Laws as laws
-use borrow.Author.Rules.{rules}
 use Rattle.hex_print.proofs.tail.Goals as goal
 
 pub returns-then-are_kept : goal.returns-then-are_kept

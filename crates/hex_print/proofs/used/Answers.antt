@@ -1,7 +1,6 @@
 use Rattle.hex_print.specs.Lines.{used_text}
 use native.Mathlib.Omega.{arith}
 use Rattle.hex_print.proofs.Laws as laws
-use borrow.Author.Rules.{rules}
 use Rattle.hex_print.proofs.used.Goals as goal
 
 pub returns : goal.returns

@@ -1,7 +1,6 @@
 use mathlib.Core.Path.{ap}
 use Rattle.hex_eps.specs.Answers.{keeping}
 use Rattle.hex_eps.specs.Perform.{call_of}
-use borrow.Author.Rules.{rules}
 use Rattle.hex_eps.proofs.calls.call.Goals as goal
 
 pub returns-in-Bad : goal.returns-in-Bad

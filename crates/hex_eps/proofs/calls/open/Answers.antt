@@ -1,7 +1,6 @@
 use mathlib.Core.Path.{refl}
 use Rattle.hex_eps.specs.Answers as answers
 use Rattle.hex_eps.proofs.Laws as laws
-use borrow.Author.Rules.{rules}
 use Rattle.hex_eps.proofs.calls.open.Goals as goal
 
 pub returns : goal.returns

@@ -1,5 +1,4 @@
 use Rattle.hex_eps.specs.Perform.{raw_context}
-use borrow.Author.Rules.{rules}
 use Rattle.hex_eps.proofs.calls.raw.Goals as goal
 
 pub returns : goal.returns

@@ -1,6 +1,5 @@
 use Rattle.hex_eps.specs.Answers as answers
 use Rattle.hex_eps.proofs.Laws as laws
-use borrow.Author.Rules.{rules}
 use Rattle.hex_eps.proofs.calls.seal.Goals as goal
 
 pub returns : goal.returns

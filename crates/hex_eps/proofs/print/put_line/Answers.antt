@@ -1,7 +1,6 @@
 use native.Mathlib.Omega.{arith}
 use Rattle.hex_print.proofs.Laws as texts
 use Rattle.hex_eps.proofs.Laws as laws
-use borrow.Author.Rules.{rules}
 use Rattle.hex_eps.proofs.print.put_line.Goals as goal
 
 pub returns : goal.returns

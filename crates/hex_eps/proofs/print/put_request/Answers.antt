@@ -1,7 +1,6 @@
 use Rattle.hex_eps.specs.Lines.{request_text}
 use native.Mathlib.Omega.{arith}
 use Rattle.hex_print.proofs.Laws as laws
-use borrow.Author.Rules.{rules}
 use Rattle.hex_eps.proofs.print.put_request.Goals as goal
 
 pub returns : goal.returns

@@ -1,5 +1,4 @@
 use Rattle.hex_perform.proofs.Laws as laws
-use borrow.Author.Rules.{rules}
 use Rattle.hex_perform.proofs.calls.across.Goals as goal
 
 pub returns : goal.returns

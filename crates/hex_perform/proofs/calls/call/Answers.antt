@@ -1,7 +1,6 @@
 use mathlib.Core.Path.{ap}
 use Rattle.hex_perform.specs.Answers.{beside, keeping}
 use Rattle.hex_perform.specs.Perform.{call_of}
-use borrow.Author.Rules.{rules}
 use Rattle.hex_perform.proofs.calls.call.Goals as goal
 
 pub returns-in-Bad : goal.returns-in-Bad

@@ -1,6 +1,5 @@
 use Rattle.hex_perform.specs.Answers as answers
 use Rattle.hex_perform.proofs.Laws as laws
-use borrow.Author.Rules.{rules}
 use Rattle.hex_perform.proofs.calls.initial.Goals as goal
 
 pub returns : goal.returns

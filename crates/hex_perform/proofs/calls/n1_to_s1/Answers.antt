@@ -1,7 +1,6 @@
 use Rattle.hex_perform.specs.Answers as answers
 use Rattle.hex_perform.proofs.Laws as laws
 use mathlib.Core.Path.{refl}
-use borrow.Author.Rules.{rules}
 use Rattle.hex_perform.proofs.calls.n1_to_s1.Goals as goal
 
 pub returns : goal.returns

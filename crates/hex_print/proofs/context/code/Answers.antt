@@ -3,7 +3,6 @@ use mathlib.Core.List.{[], ◌∷◌}
 use Rattle.hex_lines.proofs.Laws as hex
 use native.Mathlib.Omega.{arith}
 use Rattle.hex_print.proofs.Laws as laws
-use borrow.Author.Rules.{rules}
 use Rattle.hex_print.proofs.context.code.Goals as goal
 
 pub returns : goal.returns

@@ -2,7 +2,6 @@ use mathlib.Core.Path.{refl}
 use Rattle.hex_print.specs.Words.{decimal_word}
 use native.Mathlib.Omega.{arith}
 use Rattle.hex_print.proofs.Laws as laws
-use borrow.Author.Rules.{rules}
 use Rattle.hex_print.proofs.words.decimal.Goals as goal
 
 pub returns : goal.returns

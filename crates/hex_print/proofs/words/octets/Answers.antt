@@ -4,7 +4,6 @@ use lib.ListN.{length}
 use Rattle.hex_lines.proofs.Laws as hex
 use native.Mathlib.Omega.{arith}
 use Rattle.hex_print.proofs.Laws as laws
-use borrow.Author.Rules.{rules}
 use Rattle.hex_print.proofs.words.octets.Goals as goal
 
 pub returns-then-octets-eq0 : goal.returns-then-octets-eq0

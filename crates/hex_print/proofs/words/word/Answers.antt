@@ -2,7 +2,6 @@ use Prim.Native.Nat.{◌*◌}
 use Rattle.hex_print.specs.Words.{word}
 use native.Mathlib.Omega.{arith}
 use Rattle.hex_print.proofs.Laws as laws
-use borrow.Author.Rules.{rules}
 use Rattle.hex_print.proofs.words.word.Goals as goal
 
 pub returns : goal.returns

@@ -1,5 +1,6 @@
 // A call of a hex line performed on a context, and the line of its answer told, whole or in pieces.
 #![tactic(auto)]
+
 ghost use Rattle.std.specs.Prelude.{◌≡◌, ◌&&◌, ◌+◌, ◌≤◌, eqb, length};
 
 use aes::Key;

@@ -1,5 +1,6 @@
 // A call of an EPS hex line performed on a context, and the line of its answer told, whole or in pieces.
 #![tactic(auto)]
+
 ghost use Rattle.std.specs.Prelude.{◌≤◌, length};
 
 use hex_eps::{Answer, Done};

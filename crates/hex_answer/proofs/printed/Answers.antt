@@ -1,6 +1,5 @@
 use native.Mathlib.Omega.{arith}
 use lib.ListN.{length-take}
-use borrow.Author.Rules.{rules}
 use Rattle.hex_answer.proofs.printed.Goals as goal
 
 pub slice_bounds-told-end : goal.slice_bounds-told-end

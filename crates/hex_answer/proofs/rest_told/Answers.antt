@@ -1,7 +1,5 @@
-use Prim.Native.Nat.{◌-◌, ◌≤◌}
 use native.Mathlib.Omega.{arith}
-use borrow.Author.Rules.{rules}
-use lib.ListN.{length, length-take}
+use lib.ListN.{length-take}
 use Rattle.hex_answer.proofs.rest_told.Goals as goal
 
 -- A piece is at most 16,384 octets, and so is what is left at the end.

@@ -1,7 +1,5 @@
 use Prim.Native.Nat.{◌-◌, ◌≤◌}
-use native.Mathlib.Omega.{arith}
-use borrow.Author.Rules.{rules}
-use lib.ListN.{length, length-take}
+use lib.ListN.{length}
 use Rattle.hex_answer.proofs.rest_told.Given as goal
 
 abbrev pub invariant-loop-done : goal.invariant-loop-done

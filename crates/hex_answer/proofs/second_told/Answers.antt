@@ -1,6 +1,5 @@
 use native.Mathlib.Omega.{arith}
 use lib.ListN.{length-take}
-use borrow.Author.Rules.{rules}
 use Rattle.hex_answer.proofs.second_told.Goals as goal
 
 pub slice_bounds-second_text-end : goal.slice_bounds-second_text-end

@@ -1,6 +1,5 @@
 use native.Mathlib.Omega.{arith}
 use lib.ListN.{length-take}
-use borrow.Author.Rules.{rules}
 use Rattle.hex_eps_answer.proofs.performed.Goals as goal
 
 pub slice_bounds-fill-end-2 : goal.slice_bounds-fill-end-2

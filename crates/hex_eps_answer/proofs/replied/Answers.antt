@@ -1,6 +1,5 @@
 use native.Mathlib.Omega.{arith}
 use lib.ListN.{length-take}
-use borrow.Author.Rules.{rules}
 use Rattle.hex_eps_answer.proofs.replied.Goals as goal
 
 pub slice_bounds-printed-end-2 : goal.slice_bounds-printed-end-2

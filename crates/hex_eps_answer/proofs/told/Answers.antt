@@ -1,6 +1,5 @@
 use native.Mathlib.Omega.{arith}
 use lib.ListN.{length-take}
-use borrow.Author.Rules.{rules}
 use Rattle.hex_eps_answer.proofs.told.Goals as goal
 
 pub slice_bounds-answer_text-end : goal.slice_bounds-answer_text-end

@@ -21,8 +21,8 @@ use Rattle.nas_5gs.specs.declared.OpenAnswer.{OpenAnswer}
 use Rattle.nas_5gs.specs.declared.OpenAnswer.TheVariants.{Refused, Accepted, Content}
 use Rattle.nas_5gs.specs.Places.{direction_no, bearer_no, place_of, record_at, used, used_late}
 use Rattle.nas_5gs.specs.Leaves.{LeavesTwo, leaves_two, over, received}
-use Rattle.nas_5gs.specs.Open.{type_of, open_refusal, room_for, inside_number, open_answer, handed, plain_of, opened, open_of}
-use Rattle.handover.specs.Across.{other, LeavesAcross, leaves_across, on, number_of, refusal_of, is_missed, both_of, elsewhere_of, across_of}
+use Rattle.nas_5gs.specs.Open.{type_of, open_refusal, room_for, inside_number, handed, plain_of, opened, open_of}
+use Rattle.handover.specs.Across.{other, LeavesAcross, leaves_across, number_of, refusal_of, is_missed, both_of, elsewhere_of, across_of}
 
 module _ (x : Context) (out second : List ℕ) where
   -- left as it was, if it is missed

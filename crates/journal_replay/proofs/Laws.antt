@@ -1,11 +1,10 @@
 -- A line whose record is read again is performed as it was.
 use mathlib.Core.Path.{◌≡◌, refl, ap, sym, ◌∙◌}
-use mathlib.Core.Bool.{Bool, true, false}
 use mathlib.Core.List.{List, [], ◌∷◌, ◌++◌, append-nil}
-use Prim.Native.Nat.{ℕ, suc, ◌+◌, ◌/◌, ◌%◌, ◌≤◌, ◌<◌, min}
+use Prim.Native.Nat.{ℕ, ◌+◌, ◌/◌, ◌%◌, ◌≤◌, ◌<◌, min}
 use native.Mathlib.Omega.{arith}
 use lib.Dec.{eqb}
-use lib.ListN.{length, get_or}
+use lib.ListN.{length}
 use Rattle.nas_5gs.specs.declared.Context.{Context}
 use Rattle.nas_5gs.specs.Leaves.{LeavesTwo}
 use Rattle.hex_parse.specs.declared.Line.{Line}
@@ -13,8 +12,8 @@ use Rattle.hex_parse.specs.declared.Call.{Call}
 use Rattle.hex_parse.specs.declared.Call.TheVariants as hex
 use Rattle.hex_perform.specs.declared.Answer.{Answer}
 use Rattle.hex_perform.specs.Perform.{direction_of, connection_of, call_of, perform_of}
-use Rattle.journal.specs.Items.{Item, items}
-use Rattle.journal.specs.Laws.{are_written, records, calls}
+use Rattle.journal.specs.Items.{Item}
+use Rattle.journal.specs.Laws.{calls}
 use Rattle.journal.proofs.Known.{by}
 use Rattle.journal.proofs.Laws as journal-laws
 use Rattle.journal_calls.specs.declared.Call.{Call as Entry}
@@ -24,7 +23,7 @@ use Rattle.journal_calls.specs.declared.Call.TheVariants as journal
 use Rattle.journal_calls.specs.Laws.{Places, State}
 use Rattle.journal_calls.proofs.Laws as call-laws
 use Rattle.journal_lines.specs.Lines.{place_of, access_of, entry_of, behind_of, rest_in, entry_in, bytes_of, line_for, line_of}
-use Rattle.journal_replay.specs.Replay.{lent, performed, given, answered, line_at, lines_in, replayed}
+use Rattle.journal_replay.specs.Replay.{lent, performed, given, answered, lines_in, replayed}
 use Rattle.journal_replay.specs.Laws.{room_in, second_in, Held, AllHeld, records_of, Replays}
 
 -- a place and a connection are read back

@@ -1,27 +1,22 @@
 -- A journal's answers are those of its parts, and each part keeps demand 3.
 use Prim.Native.Nat.{ℕ, ◌+◌, ◌/◌, ◌%◌}
-use mathlib.Core.Path.{◌≡◌, refl, ap, sym, subst, ◌∙◌}
+use mathlib.Core.Path.{◌≡◌, refl, ap, sym, ◌∙◌}
 use mathlib.Core.Bool.{Bool, true, false, cond}
 use mathlib.Core.List.{List, [], ◌∷◌, ◌++◌, reverse_aux, reverse}
 use native.Mathlib.Omega.{arith}
 use lib.Dec.{eqb}
 use lib.ListN.{length, get_or, replicate}
 use borrow.Author.Tests.{eqb-false}
-use Rattle.refusals.specs.Order.{◌when◌, first, refused_or}
+use Rattle.refusals.specs.Order.{◌when◌, first}
 use Rattle.nas_core.specs.Refusals.{unbuilt}
 use Rattle.nas_5gs.specs.Places.{four, any_over}
 use Rattle.nas_5gs.specs.declared.Context.{Context}
 use Rattle.nas_5gs.specs.declared.ChangeAnswer.{ChangeAnswer}
 use Rattle.nas_5gs.specs.declared.ChangeAnswer.TheVariants as change
-use Rattle.nas_5gs.specs.declared.UseAnswer.{UseAnswer}
 use Rattle.nas_5gs.specs.declared.UseAnswer.TheVariants as use'
-use Rattle.nas_5gs.specs.declared.OctetAnswer.{OctetAnswer}
 use Rattle.nas_5gs.specs.declared.OctetAnswer.TheVariants as octet
-use Rattle.nas_5gs.specs.declared.OpenAnswer.{OpenAnswer}
 use Rattle.nas_5gs.specs.declared.OpenAnswer.TheVariants as open'
-use Rattle.nas_5gs.specs.declared.EpsOpenAnswer.{EpsOpenAnswer}
 use Rattle.nas_5gs.specs.declared.EpsOpenAnswer.TheVariants as eps
-use Rattle.nas_5gs.specs.declared.VerifyAnswer.{VerifyAnswer}
 use Rattle.nas_5gs.specs.declared.VerifyAnswer.TheVariants as verify
 use Rattle.nas_5gs.specs.Leaves.{Leaves, leaves, LeavesTwo, leaves_two, Values, refusal, change_values, use_values, open_values, eps_open_values, octet_values, verify_values}
 use Rattle.nas_5gs.specs.Changes.{context_with, refused_context, new_of, restore_of, reselect_of, window_of}
@@ -41,10 +36,10 @@ use Rattle.journal_calls.specs.Calls.{rest_of, call_of as entry_at}
 use Rattle.journal_lines.specs.Lines.{line_for, line_of}
 use Rattle.promises.specs.Words.{Succeeds}
 use Rattle.promises.specs.Calls.{Call, make_n1_to_s1, verify_n1_to_s1, verify_s1_to_n1, set_window, reselect, Making, create, restore, Outcome, outcome, used_by, first_of, second_of, gives, second, makes, place_in, context_after, counts_used}
-use Rattle.promises.specs.Demand3.{Begins, fresh, restored, NeverToNull, Demand3}
+use Rattle.promises.specs.Demand3.{Begins, fresh, restored}
 use Rattle.promises.proofs.Promises.{promises}
 use Rattle.journal_replay.specs.Replay.{lent, performed, given as handed, answered, lines_in, replayed}
-use Rattle.journal_replay.specs.Parts.{Step, making, calling, steps_for, steps_in, Part, beginning, extended, start, parts, parts_of, given, given_in, values_of, told, told_in, integrity_in, OfJournal}
+use Rattle.journal_replay.specs.Parts.{Step, making, calling, steps_for, steps_in, Part, beginning, extended, start, parts, parts_of, given_in, values_of, told, told_in, integrity_in, OfJournal}
 
 -- what a step gives, and what steps do, in order
 abbrev does : Step → Context → Outcome × List ℕ

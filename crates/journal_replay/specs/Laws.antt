@@ -1,10 +1,10 @@
 -- What was written replays as the lines themselves: stated here, proved in proofs/Laws.antt.
-use Rattle.std.specs.Prelude.{ℕ, ◌≤◌, ◌≡◌, Bool, true, false, ◌&&◌, List, [], ◌∷◌, leb, length}
+use Rattle.std.specs.Prelude.{ℕ, ◌≤◌, ◌≡◌, true, false, List, [], ◌∷◌, length}
 use Rattle.nas_5gs.specs.declared.Context.{Context}
 use Rattle.hex_parse.specs.declared.Line.{Line}
 use Rattle.journal.specs.Items.{items}
 use Rattle.journal.specs.Laws.{are_written, records}
-use Rattle.journal_calls.specs.Calls.{kind_of, front_of}
+use Rattle.journal_calls.specs.Calls.{kind_of}
 use Rattle.journal_calls.specs.declared.Call.{Call as Entry}
 use Rattle.journal_calls.specs.declared.Call.TheVariants as journal
 use Rattle.journal_lines.specs.Lines.{entry_in, bytes_of}

@@ -1,15 +1,13 @@
 -- A mixture of both kinds is a run of the calls by value.
 use Prim.Native.Nat.{ℕ}
 use mathlib.Core.Path.{◌≡◌, refl, sym, ap, ◌∙◌, subst}
-use mathlib.Core.Bool.{cond}
-use mathlib.Core.List.{List, [], ◌∷◌, ◌++◌, map}
-use lib.Dec.{eqb}
+use mathlib.Core.List.{List, [], ◌∷◌, map}
 use Rattle.count.specs.Run.{NoneTwice}
 use Rattle.nas_5gs.specs.declared.Context.{Context}
 use Rattle.nas_5gs.specs.Places.{place_of, record_at}
-use Rattle.promises.specs.Calls.{Call, Outcome, used_by, gives, second, lent, lent_second, place_in, context_after, counts_used}
+use Rattle.promises.specs.Calls.{Call, Outcome, gives, second, lent, lent_second, context_after, counts_used}
 use Rattle.promises.proofs.Promises.{promises}
-use Rattle.mixture.specs.Mixture.{InPlace, window_in, seal_in, open_in, changes, changes_second, handing, AnyCall, by_value, in_place, leaves_by, leaves_second, call_of, kept_after, used_in, Mixed, Mixture}
+use Rattle.mixture.specs.Mixture.{InPlace, window_in, seal_in, open_in, changes, changes_second, handing, AnyCall, by_value, in_place, leaves_by, leaves_second, call_of, kept_after, used_in, Mixture}
 
 same : (l : InPlace) (x : Context) → (changes l x ≡ gives (handing l) x) × (changes_second l x ≡ second (handing l) x)
 same (window_in n) x = (refl, refl)

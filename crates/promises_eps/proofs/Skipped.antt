@@ -12,7 +12,7 @@ use Rattle.count.specs.declared.Record.{Record}
 use Rattle.count.specs.declared.Opening.{Opening}
 use Rattle.count.specs.declared.Opening.TheVariants.{Late, Forward, None, Wrong}
 use Rattle.count.specs.declared.Candidate.TheVariants.{Nothing, At}
-use Rattle.count.specs.Rule.{exhausted, distance, distance_of, forward_of, late_of, opening, forward_only}
+use Rattle.count.specs.Rule.{exhausted, distance_of, forward_of, late_of, opening, forward_only}
 use Rattle.count.proofs.Candidates.{never}
 use Rattle.count.proofs.Distance.{distance-lt}
 use Rattle.count.proofs.Openings.{answers}

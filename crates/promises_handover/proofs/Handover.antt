@@ -25,22 +25,22 @@ use Rattle.nas_5gs.specs.declared.Connection.TheVariants.{ThreeGpp, Non3Gpp}
 use Rattle.nas_5gs.specs.declared.OpenAnswer.{OpenAnswer}
 use Rattle.nas_5gs.specs.declared.OpenAnswer.TheVariants.{Refused, Accepted, Content}
 use Rattle.nas_5gs.specs.Places.{direction_no, bearer_no, place_of, record_at}
-use Rattle.nas_5gs.specs.Leaves.{LeavesTwo, leaves_two, Values, over, received, open_values}
+use Rattle.nas_5gs.specs.Leaves.{LeavesTwo, leaves_two, over, received, open_values}
 use Rattle.nas_5gs.specs.Envelope.{envelope}
 use Rattle.initial.specs.Inside.{Hidden}
 use Rattle.look.specs.Look.{look_of}
 use Rattle.envelope.specs.Initial.{beside, beside_of as inside_of}
 use Rattle.nas_5gs.specs.Open.{type_of, open_refusal, room_for, inside_number, handed, plain_of, opened, open_of}
-use Rattle.handover.specs.Across.{other, LeavesAcross, leaves_across, on, number_of, refusal_of, is_missed, both_of, elsewhere_of, across_of}
+use Rattle.handover.specs.Across.{other, LeavesAcross, leaves_across, on, refusal_of, is_missed, both_of, elsewhere_of, across_of}
 use Rattle.handover.proofs.Missed.{missed}
 use Rattle.promises.specs.Words.{SameKeys, TakenAs}
-use Rattle.promises.specs.Calls.{Call, open5gs, Outcome, outcome, used_by, first_of, second_of, gives, second, place_in, context_after, counts_used}
+use Rattle.promises.specs.Calls.{Call, open5gs, outcome, used_by, first_of, second_of, gives, place_in, context_after, counts_used}
 use Rattle.promises.specs.Demand3.{Begins, NeverToNull, Due}
 use Rattle.promises.specs.Isolation.{Elsewhere}
 use Rattle.promises.proofs.Promises.{promises}
 use Rattle.promises.proofs.Demand3.{place-there, beginning, guarded-now}
 use Rattle.promises.proofs.Taking.{no-fault, open-passes, has_room, envelope-type, envelope-first, envelope-long}
-use Rattle.promises_handover.specs.Handover.{AnyCall, own, across, outcome_of, connection_of, beside_of, any_gives, as_call, kept_after, as_calls, used_on, AsOpen, Tried, FitsNone, Across, NotOn, NoneOn, Handover}
+use Rattle.promises_handover.specs.Handover.{AnyCall, own, across, outcome_of, connection_of, beside_of, any_gives, as_call, kept_after, as_calls, used_on, AsOpen, FitsNone, Across, NoneOn, Handover}
 
 clash : {P : Type 0} → ◌≡◌ {A = Bool} false true → P
 clash e = absurd (let z : ◌≡◌ {A = ℕ} 0 1 = cc in omega arith)

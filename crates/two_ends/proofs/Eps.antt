@@ -15,7 +15,6 @@ use Rattle.nas_eps.specs.declared.Direction.{Direction}
 use Rattle.nas_eps.specs.declared.OpenAnswer.TheVariants as open'
 use Rattle.nas_eps.specs.Places.{place_of, next_at}
 use Rattle.nas_eps.specs.Leaves.{use_next, open_values}
-use Rattle.nas_eps.specs.Octets.{message}
 use Rattle.nas_eps.specs.Open.{open_refusal}
 use Rattle.nas_eps.proofs.Lengths.{message-length}
 use Rattle.promise.specs.Outcomes.{Outcome, SameKeys, Succeeds, Uses, written}

@@ -1,5 +1,4 @@
-use mathlib.Core.Path.{sym, ap, subst, ◌∙◌}
-use borrow.Author.Rules.{rules}
+use mathlib.Core.Path.{sym, ap, ◌∙◌}
 use Rattle.handover.specs.Across.{is_missed, both_of}
 use Rattle.handover.proofs.Missed.{neither, other-one}
 use Rattle.handover.proofs.elsewhere.Goals as goal

@@ -1,4 +1,3 @@
-use borrow.Author.Rules.{rules}
 use Rattle.handover.proofs.Missed.{this-one, not-this}
 use Rattle.handover.proofs.open_across.Goals as goal
 

@@ -1,5 +1,4 @@
 use mathlib.Core.Path.{sym, ◌∙◌}
-use borrow.Author.Rules.{rules}
 use Rattle.handover.proofs.tries_other.Goals as goal
 
 pub returns-then-wraps : goal.returns-then-wraps

@@ -1,5 +1,4 @@
 use mathlib.Core.Path.{sym, ◌∙◌}
-use borrow.Author.Rules.{rules}
 use Rattle.nas_c.specs.Numbers.{no_way}
 use Rattle.nas_c.proofs.no_way.Goals as goal
 

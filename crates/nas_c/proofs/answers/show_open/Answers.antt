@@ -1,4 +1,3 @@
-use borrow.Author.Rules.{rules}
 use Rattle.nas_c.proofs.answers.show_open.Goals as goal
 
 pub returns-in-Refused : goal.returns-in-Refused

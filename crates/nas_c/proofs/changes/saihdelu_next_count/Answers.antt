@@ -1,5 +1,4 @@
 use mathlib.Core.Path.{sym, ◌∙◌}
-use borrow.Author.Rules.{rules}
 use Rattle.nas_c.specs.Numbers.{next_count_number}
 use Rattle.nas_c.proofs.changes.saihdelu_next_count.Goals as goal
 

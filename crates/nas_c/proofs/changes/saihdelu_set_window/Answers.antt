@@ -1,7 +1,6 @@
 use mathlib.Core.Path.{ap}
 use Rattle.nas_5gs.specs.Leaves.{change_values}
 use Rattle.nas_c.specs.Numbers.{shown, numbers, window_numbers}
-use borrow.Author.Rules.{rules}
 use Rattle.nas_c.proofs.changes.saihdelu_set_window.Goals as goal
 
 pub returns : goal.returns

@@ -1,7 +1,6 @@
 use mathlib.Core.Path.{ap}
 use Rattle.nas_5gs.specs.Leaves.{use_values}
 use Rattle.nas_c.specs.Numbers.{shown, numbers, s1_to_n1_numbers}
-use borrow.Author.Rules.{rules}
 use Rattle.nas_c.proofs.containers.saihdelu_s1_to_n1.Goals as goal
 
 pub returns : goal.returns

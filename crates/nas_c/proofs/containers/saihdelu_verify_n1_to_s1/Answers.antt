@@ -1,7 +1,6 @@
 use mathlib.Core.Path.{ap}
 use Rattle.nas_5gs.specs.Leaves.{verify_values}
 use Rattle.nas_c.specs.Numbers.{shown, numbers, verify_n1_to_s1_numbers}
-use borrow.Author.Rules.{rules}
 use Rattle.nas_c.proofs.containers.saihdelu_verify_n1_to_s1.Goals as goal
 
 pub returns : goal.returns

@@ -1,4 +1,3 @@
-use borrow.Author.Rules.{rules}
 use Rattle.nas_c.proofs.eps.no_such_way.Goals as goal
 
 pub returns : goal.returns

@@ -2,7 +2,6 @@ use mathlib.Core.Path.{ap}
 use Rattle.nas_eps.specs.Leaves.{change_values}
 use Rattle.nas_c.specs.Numbers.{shown, numbers}
 use Rattle.nas_c.specs.EpsNumbers.{new_numbers}
-use borrow.Author.Rules.{rules}
 use Rattle.nas_c.proofs.eps.saihdelu_eps_new.Goals as goal
 
 pub returns : goal.returns

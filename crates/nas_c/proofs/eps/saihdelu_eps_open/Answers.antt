@@ -2,7 +2,6 @@ use mathlib.Core.Path.{sym, ap, ◌∙◌}
 use Rattle.nas_eps.specs.Leaves.{open_values}
 use Rattle.nas_c.specs.Numbers.{numbers}
 use Rattle.nas_c.specs.EpsNumbers.{shown_open, open_numbers}
-use borrow.Author.Rules.{rules}
 use Rattle.nas_c.proofs.eps.saihdelu_eps_open.Goals as goal
 
 pub returns-then-no_direction : goal.returns-then-no_direction

@@ -2,7 +2,6 @@ use mathlib.Core.Path.{sym, ap, ◌∙◌}
 use Rattle.nas_eps.specs.Leaves.{use_values}
 use Rattle.nas_c.specs.Numbers.{shown, numbers}
 use Rattle.nas_c.specs.EpsNumbers.{seal_numbers}
-use borrow.Author.Rules.{rules}
 use Rattle.nas_c.proofs.eps.saihdelu_eps_seal.Goals as goal
 
 pub returns-then-no_direction : goal.returns-then-no_direction

@@ -1,4 +1,3 @@
-use borrow.Author.Rules.{rules}
 use Rattle.nas_c.proofs.eps.show_change.Goals as goal
 
 pub returns-in-Refused : goal.returns-in-Refused

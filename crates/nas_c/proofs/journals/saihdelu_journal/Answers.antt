@@ -1,6 +1,5 @@
 use mathlib.Core.Path.{ap}
 use Rattle.nas_c.specs.JournalNumbers.{numbers_written, journal_numbers}
-use borrow.Author.Rules.{rules}
 use Rattle.nas_c.proofs.journals.saihdelu_journal.Goals as goal
 
 pub returns : goal.returns

@@ -1,7 +1,6 @@
 use mathlib.Core.Path.{sym, ap, ◌∙◌}
 use Rattle.nas_5gs.specs.Leaves.{open_values}
 use Rattle.nas_c.specs.Numbers.{numbers_two, open_numbers}
-use borrow.Author.Rules.{rules}
 use Rattle.nas_c.proofs.opens.saihdelu_open.Goals as goal
 
 pub returns-then-no_way : goal.returns-then-no_way

@@ -1,6 +1,5 @@
 use mathlib.Core.Path.{sym, ap, ◌∙◌}
 use Rattle.nas_c.specs.Numbers.{numbers_across, across_numbers}
-use borrow.Author.Rules.{rules}
 use Rattle.nas_c.proofs.opens.saihdelu_open_across.Goals as goal
 
 pub returns-then-no_way : goal.returns-then-no_way

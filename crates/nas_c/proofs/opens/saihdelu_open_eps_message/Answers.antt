@@ -1,7 +1,6 @@
 use mathlib.Core.Path.{ap}
 use Rattle.nas_5gs.specs.Leaves.{eps_open_values}
 use Rattle.nas_c.specs.Numbers.{shown, numbers, open_eps_numbers}
-use borrow.Author.Rules.{rules}
 use Rattle.nas_c.proofs.opens.saihdelu_open_eps_message.Goals as goal
 
 pub returns : goal.returns

@@ -1,7 +1,6 @@
 use mathlib.Core.Path.{sym, ap, ◌∙◌}
 use Rattle.nas_5gs.specs.Leaves.{use_values}
 use Rattle.nas_c.specs.Numbers.{shown, numbers, initial_numbers}
-use borrow.Author.Rules.{rules}
 use Rattle.nas_c.proofs.seals.saihdelu_initial.Goals as goal
 
 pub returns-then-no_connection : goal.returns-then-no_connection

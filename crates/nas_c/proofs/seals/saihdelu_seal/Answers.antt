@@ -1,7 +1,6 @@
 use mathlib.Core.Path.{sym, ap, ◌∙◌}
 use Rattle.nas_5gs.specs.Leaves.{use_values}
 use Rattle.nas_c.specs.Numbers.{shown, numbers, seal_numbers}
-use borrow.Author.Rules.{rules}
 use Rattle.nas_c.proofs.seals.saihdelu_seal.Goals as goal
 
 pub returns-then-no_way : goal.returns-then-no_way

@@ -1,7 +1,6 @@
 use mathlib.Core.Path.{ap}
 use Rattle.nas_5gs.specs.Leaves.{use_values}
 use Rattle.nas_c.specs.Numbers.{shown, numbers, seal_eps_numbers}
-use borrow.Author.Rules.{rules}
 use Rattle.nas_c.proofs.seals.saihdelu_seal_eps_message.Goals as goal
 
 pub returns : goal.returns

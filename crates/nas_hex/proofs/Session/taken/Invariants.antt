@@ -1,7 +1,6 @@
 use Prim.Native.Nat.{◌-◌, ◌≤◌}
 use mathlib.Core.Path.{◌≡◌}
 use lib.ListN.{length}
-use borrow.Author.Rules.{rules}
 use Rattle.nas_hex.proofs.Session.taken.Given as goal
 
 abbrev pub invariant-loop-at : goal.invariant-loop-at

@@ -1,6 +1,5 @@
 use mathlib.Core.Path.{◌≡◌}
 use lib.ListN.{length}
-use borrow.Author.Rules.{rules}
 use Rattle.journal_read.proofs.run.Given as goal
 
 abbrev pub invariant-loop-steps : goal.invariant-loop-steps

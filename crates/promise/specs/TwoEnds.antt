@@ -75,9 +75,9 @@ module _ {X : Type 0} (L : Link X) where
   Place (m ∷ l) = Unit {0} ⊎ Place l
 
   abbrev pub at : (l : List Message) → Place l → Message
+  at [] none = elim none [ ]
   at (m ∷ l) (inl here) = m
   at (m ∷ l) (inr n) = at l n
-  at [] x' = elim x' [ ]
 
   -- "no sealed message's code fits a COUNT other than its own": of what was sent, and of the COUNTs, the numbers below 2^24
   abbrev pub NoOther : X → List Message → Type 0

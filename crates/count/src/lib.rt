@@ -10,27 +10,26 @@ pub const EXHAUSTED: u32 = 16777216;
 // The next COUNT of one direction of one connection (EXHAUSTED: all are used), and the window bits: bit k is set when the COUNT k + 1 below the
 // highest used one, next - 1, is used.
 #[repr(C)]
-#[derive(Clone, Copy)]
+#[derive(Clone, Copy, Debug, PartialEq, Eq)]
 pub struct Record {
     pub next: u32,
     pub bits: u64,
 }
 
-// The COUNT that a message may have, if there is one.
-#[derive(Clone, Copy)]
-pub enum Candidate {
-    Nothing,
-    At(u32),
-}
-
-// What an opening takes a message as: a late COUNT, a forward one, or none, for want of a forward candidate (refusal 6) or because the code is wrong for
-// every candidate (refusal 7).
-#[derive(Clone, Copy)]
-pub enum Opening {
+// The COUNT that an opening takes a message as.
+#[derive(Clone, Copy, Debug, PartialEq, Eq)]
+pub enum Taken {
     Late(u32),
     Forward(u32),
-    None,
-    Wrong,
+}
+
+// Why it takes a message as none.
+#[derive(Clone, Copy, Debug, PartialEq, Eq)]
+pub enum Missed {
+    // refusal 6
+    NoCandidate,
+    // refusal 7: the code is wrong for every candidate
+    WrongCode,
 }
 
 // How many numbers differ in their k low bits.
@@ -80,55 +79,49 @@ fn former_highest(next: u32, m: u32) -> u64
     if next == 0 { 0 } else { moved_up(1, m - 1) }
 }
 
-fn lesser(a: u8, b: u8) -> u8
-    ensures { result ≡ min a b }
-{
-    if a < b { a } else { b }
-}
-
 impl Record {
     // The least COUNT from next on whose k low bits are those of s; with null integrity (wraps) it goes round.
-    pub fn forward(self, k: u8, wraps: bool, s: u8) -> Candidate
+    pub fn forward(self, k: u8, wraps: bool, s: u8) -> Option<u32>
         requires { k ≤ 8 }
         ensures { result ≡ forward_of k wraps self s }
     {
         let next = self.next;
         if EXHAUSTED <= next {
-            return Candidate::Nothing;
+            return None;
         }
         let c = next + distance_up(k, next, s as u32);
         if c < EXHAUSTED {
-            return Candidate::At(c);
+            return Some(c);
         }
         if wraps {
-            return Candidate::At(c % EXHAUSTED);
+            return Some(c % EXHAUSTED);
         }
-        Candidate::Nothing
+        None
     }
 
     // The COUNT below the highest whose last octet is s, if it is open late.
-    pub fn late(self, size: u8, s: u8) -> Candidate
+    pub fn late(self, size: u8, s: u8) -> Option<u32>
         ensures { result ≡ late_of 8 size self s }
     {
         let next = self.next;
         if next == 0 {
-            return Candidate::Nothing;
+            return None;
         }
         let h = next - 1;
         let d = distance_up(8, s as u32, h);
         if d < 1 {
-            return Candidate::Nothing;
+            return None;
         }
         if (size as u32) < d {
-            return Candidate::Nothing;
+            return None;
         }
         if h < d {
-            return Candidate::Nothing;
+            return None;
         }
         if bit_at(self.bits, d - 1) == 0 {
-            return Candidate::At(h - d);
+            return Some(h - d);
         }
-        Candidate::Nothing
+        None
     }
 
     // How far a forward c lies above next, or a late one below the highest used.
@@ -191,7 +184,7 @@ impl Record {
         requires { (old ≤ 64) × (new ≤ 64) }
         ensures { result ≡ resize_of old new self }
     {
-        let known = low_bits(lesser(old, new));
+        let known = low_bits(old.min(new));
         Record {
             next: self.next,
             bits: (self.bits & known) | (low_bits(new) - known),

@@ -7,6 +7,7 @@ ghost use Rattle.algorithms.specs.Codes.{is_built, code_of, cipher_of};
 use aes::{Input, Key};
 
 // kept: an algorithm is a number, not an enum: a context of C holds any octet here, and `code` and `cipher` answer for each.
+#[tactic(auto, unfolding(crate::specs::Codes::is_built))]
 pub fn built(algorithm: u8) -> bool
     ensures { result ≡ is_built algorithm }
 {
@@ -14,6 +15,7 @@ pub fn built(algorithm: u8) -> bool
 }
 
 // The code of a message. SNOW 3G and ZUC take a key's 16 octets as they are.
+#[tactic(auto, unfolding(crate::specs::Codes::code_of))]
 pub fn code(algorithm: u8, key: Key, input: Input, message: &[u8]) -> [u8; 4]
     ensures { result ≡ code_of algorithm key input.count input.bearer input.direction message.now }
 {
@@ -26,6 +28,7 @@ pub fn code(algorithm: u8, key: Key, input: Input, message: &[u8]) -> [u8; 4]
 }
 
 // The octets ciphered, or deciphered, where they lie.
+#[tactic(auto, unfolding(crate::specs::Codes::cipher_of))]
 pub fn cipher(algorithm: u8, key: Key, input: Input, octets: &mut [u8])
     ensures { octets.new ≡ cipher_of algorithm key input.count input.bearer input.direction octets.old }
 {

@@ -1,9 +1,10 @@
 // Calls that use no COUNT: creation, restore, reselection, window size, reading.
-ghost use Rattle.std.specs.Prelude.{◌≡◌, [], ◌≤◌};
+ghost use Rattle.std.specs.Prelude.{◌≡◌, [], ◌≤◌, Err};
 ghost use Rattle.nas_core.specs.ChangeAnswer.{told_change};
-ghost use Rattle.nas_5gs.specs.Places.{place_of, next_at};
+ghost use Rattle.count.specs.Rule.{resize_of};
+ghost use Rattle.nas_5gs.specs.Places.{place_of, record_at, next_at, four};
 ghost use Rattle.nas_5gs.specs.Leaves.{leaves};
-ghost use Rattle.nas_5gs.specs.Changes.{context_with, refused_context, new_of, restore_of, closed, kept_for, reselect_of, resized, window_of};
+ghost use Rattle.nas_5gs.specs.Changes.{context_with, refused_context, new_of, restore_of, kept_for, reselect_of, resized, window_of};
 
 use crate::{Connection, Context, Direction};
 use aes::Key;

@@ -1,9 +1,8 @@
 // What a 5GS and an EPS context share: keys, codes and size, the code of octets and their ciphering, a record's COUNT verified and used, and the answers.
 #![tactic(auto)]
 
-ghost use Rattle.std.specs.Prelude.{◌≡◌, true, false, cond, ◌++◌, ◌∷◌, [], ◌+◌, ◌-◌, ◌≤◌, ◌<◌, length, take, drop, map, get_or};
-ghost use Rattle.count.specs.Rule.{exhausted, forward_of, late_of, try_forward, resize_of};
-ghost use Rattle.count.specs.declared.Record.{Record};
+ghost use Rattle.std.specs.Prelude.{◌≡◌, true, false, cond, ◌++◌, ◌∷◌, [], ◌+◌, ◌-◌, ◌≤◌, ◌<◌, length, take, drop, get_or};
+ghost use Rattle.count.specs.Rule.{exhausted, forward_of, late_of, try_forward};
 ghost use Rattle.refusals.specs.Order.{◌when◌, first};
 ghost use Rattle.refusals.specs.Numbers.{refused};
 ghost use Rattle.nas_core.specs.Refusals.{core_fault, send_refusals, hand_refusals, unbuilt, any_over, held_refusals};
@@ -53,6 +52,7 @@ pub struct Received {
 }
 
 // Whether one of two codes is not built.
+#[tactic(auto, unfolding(crate::specs::Refusals::unbuilt))]
 pub fn is_unbuilt(integrity: u8, ciphering: u8) -> bool
     ensures { result ≡ unbuilt integrity ciphering }
 {
@@ -60,6 +60,7 @@ pub fn is_unbuilt(integrity: u8, ciphering: u8) -> bool
 }
 
 // Whether a reselection leaves null integrity.
+#[tactic(auto, unfolding(crate::specs::Keyed::away_from_null))]
 pub fn away_from_null(from: u8, to: u8) -> bool
     ensures { result ≡ away_from_null from to }
 {
@@ -67,12 +68,14 @@ pub fn away_from_null(from: u8, to: u8) -> bool
 }
 
 // Refusal 3.
+#[tactic(auto, unfolding(crate::specs::Types::wrong_type))]
 pub fn is_wrong_type(header_type: u8) -> bool
     ensures { result ≡ wrong_type header_type }
 {
     header_type < 1 || 4 < header_type
 }
 
+#[tactic(auto, unfolding(crate::specs::Types::ciphers))]
 pub fn is_ciphering(header_type: u8) -> bool
     ensures { result ≡ ciphers header_type }
 {
@@ -118,16 +121,6 @@ pub fn any_over(next: &[u32]) -> bool
     next.iter().any(|n| count::EXHAUSTED < *n)
 }
 
-// Every record under a new size of the window.
-pub fn resize(records: &mut [Record], old: u8, new: u8)
-    requires { (old ≤ 64) × (new ≤ 64) }
-    ensures { records.new ≡ map (λ r. resize_of old new r) records.old }
-{
-    for record in records {
-        *record = record.resize(old, new);
-    }
-}
-
 // The four octets are compared as one number, at once.
 fn is_code(code: [u8; 4], received: &[u8]) -> bool
     requires { length received.now ≡ 4 }
@@ -147,6 +140,7 @@ pub fn put_code(code: [u8; 4], body: &mut [u8])
 
 impl Core {
     // Whether COUNTs go round.
+    #[tactic(auto, unfolding(crate::specs::Keyed::wraps))]
     pub fn wraps(self) -> bool
         ensures { result ≡ wraps self }
     {
@@ -154,6 +148,7 @@ impl Core {
     }
 
     // Refusals 13 and 14 of what the context holds.
+    #[tactic(auto, unfolding(crate::specs::Refusals::core_fault))]
     fn check(self) -> Result<(), Refusal>
         ensures { refused result ≡ core_fault self }
     {
@@ -177,6 +172,7 @@ impl Core {
         Ok(())
     }
 
+    #[tactic(auto, unfolding(crate::specs::Keyed::code_by))]
     pub fn code(self, input: Input, octets: &[u8]) -> [u8; 4]
         ensures { result ≡ code_by self input.count input.bearer input.direction octets.now }
     {
@@ -185,6 +181,7 @@ impl Core {
     }
 
     // The octets of `inner` over those of `out`, and ciphered there if they are to be.
+    #[tactic(auto, unfolding(crate::specs::Keyed::payload))]
     pub fn fill(
         self,
         ciphered: bool,
@@ -310,7 +307,9 @@ impl Core {
         ensures read { out.new ≡ read_as (λ n. payload self ciphered n bearer direction (drop (at + 5) message.now)) out.old result }
     {
         let last = message[at + 4];
-        let count = self.forward(rec, last).ok_or(Missed::NoCandidate)?;
+        let Some(count) = self.forward(rec, last) else {
+            return Err(Missed::NoCandidate);
+        };
         let input = Input {
             count,
             bearer,

@@ -1,5 +1,5 @@
-use Rattle.std.specs.Prelude.{Ok, Err}
 -- What calls on any context share: each does one act on one record, and answers the COUNT that it used.
+use Rattle.std.specs.Prelude.{Ok, Err}
 use Prim.Native.Nat.{ℕ}
 use mathlib.Core.Path.{◌≡◌, refl, sym, ap, ◌∙◌, subst}
 use mathlib.Core.Bool.{Bool, true, false, cond}
@@ -7,10 +7,9 @@ use mathlib.Core.List.{List, [], ◌∷◌}
 use lib.ListN.{length, set}
 use lib.Dec.{eqb}
 use Rattle.count.specs.declared.Record.{Record}
-use Rattle.count.specs.Rule.{Opening}
+use Rattle.count.specs.Rule.{Opening, use_late}
 use Rattle.count.specs.declared.Taken.TheVariants.{Late, Forward}
 use Rattle.count.specs.declared.Missed.TheVariants.{NoCandidate, WrongCode}
-use Rattle.count.specs.Rule.{use_late}
 use Rattle.count.specs.Run.{State, Act, stay, forward, round, use_by, act, act_of, used}
 use Rattle.count.specs.Machine.{state_at, records_after}
 use Rattle.refusals.specs.Order.{refused_or}

@@ -1,5 +1,5 @@
-use Rattle.std.specs.Prelude.{Ok, Err}
 -- When a call takes a message as a COUNT: by what its opening finds.
+use Rattle.std.specs.Prelude.{Ok, Err}
 use Prim.Native.Nat.{ℕ}
 use mathlib.Core.Path.{◌≡◌, sym, ap, ◌∙◌}
 use mathlib.Core.Bool.{true, false}

@@ -1,15 +1,14 @@
-use Rattle.std.specs.Prelude.{Option, Ok, Err}
 -- Two ends and a bad channel: the receiver as a run of one record.
+use Rattle.std.specs.Prelude.{Option, Ok, Err}
 use Prim.Native.Nat.{ℕ, ◌+◌, ◌%◌, ◌≤◌, ◌<◌}
 use mathlib.Core.Path.{◌≡◌, refl, sym, ap, ◌∙◌, subst}
 use mathlib.Core.Bool.{Bool, true, false, cond}
 use mathlib.Core.Logic.{◌⊎◌, inl, inr, ⊎_elim, ◌↔◌}
 use mathlib.Core.List.{List, [], ◌∷◌, ◌++◌}
 use native.Mathlib.Omega.{arith}
-use Rattle.count.specs.Rule.{Opening}
+use Rattle.count.specs.Rule.{Opening, exhausted, opening, late_of, forward_of}
 use Rattle.count.specs.declared.Taken.TheVariants.{Late, Forward}
 use Rattle.count.specs.declared.Missed.TheVariants.{NoCandidate, WrongCode}
-use Rattle.count.specs.Rule.{exhausted, opening, late_of, forward_of}
 use Rattle.count.specs.Run.{State, Act, act, act_of, used, Within, Valid, after, Fair, history, In, StillOpen}
 use Rattle.count.specs.Facts.{Takes, Reach, Facts}
 use Rattle.count.proofs.Candidates.{forward-reached, late-found}

@@ -1,8 +1,8 @@
 -- Looking at the inner message (document 01, "The octets"; TS 24.501 9.2, 9.3, Table 9.3.1).
-use Rattle.std.specs.Prelude.{ℕ, ◌%◌, Bool, true, false, cond, not, ◌&&◌, ◌||◌, List, [], ◌∷◌, length, get_or, leb, eqb}
+use Rattle.std.specs.Prelude.{ℕ, ◌%◌, Bool, true, false, cond, not, ◌&&◌, ◌||◌, List, [], ◌∷◌, length, get_or, leb, eqb, Option, Some, None}
 use Rattle.refusals.specs.Order.{◌when◌, first}
 use Rattle.look.specs.declared.Way.{Way}
-use Rattle.look.specs.declared.Way.TheVariants.{Uplink, Downlink, Either, Unknown}
+use Rattle.look.specs.declared.Way.TheVariants.{Uplink, Downlink, Either}
 use Rattle.look.specs.Types.{way_of}
 
 -- 7E, a second octet with low half 0, and a type
@@ -13,22 +13,20 @@ is_mobility m = leb 3 (length m) && eqb (get_or m 0 0) 0x7E && eqb (get_or m 1 0
 unfoldable pub is_session : List ℕ → Bool
 is_session m = leb 4 (length m) && eqb (get_or m 0 0) 0x2E
 
--- the direction that a message requires
-unfoldable pub way_in : List ℕ → Way
-way_in m = cond (is_mobility m) (way_of (get_or m 2 0)) (cond (is_session m) Either Unknown)
+-- the direction that a message requires; none is that it is unknown
+unfoldable pub way_in : List ℕ → Option Way
+way_in m = cond (is_mobility m) (way_of (get_or m 2 0)) (cond (is_session m) (Some Either) None)
 
-abbrev pub is_unknown : Way → Bool
-is_unknown Uplink = false
-is_unknown Downlink = false
-is_unknown Either = false
-is_unknown Unknown = true
+abbrev pub is_unknown : Option Way → Bool
+is_unknown (Some w) = false
+is_unknown None = true
 
 -- direction 0 is uplink and 1 downlink
-abbrev pub is_against : ℕ → Way → Bool
-is_against d Uplink = not (eqb d 0)
-is_against d Downlink = not (eqb d 1)
-is_against d Either = false
-is_against d Unknown = false
+abbrev pub is_against : ℕ → Option Way → Bool
+is_against d (Some Uplink) = not (eqb d 0)
+is_against d (Some Downlink) = not (eqb d 1)
+is_against d (Some Either) = false
+is_against d None = false
 
 -- a 7E message of one type
 unfoldable pub is_of : ℕ → List ℕ → Bool

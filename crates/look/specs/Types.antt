@@ -1,7 +1,7 @@
 -- The 5GMM message types and the side that sends each (TS 24.501 Table 9.7.1 and clause 8.2).
-use Rattle.std.specs.Prelude.{ℕ, Bool, false, cond, ◌||◌, List, [], ◌∷◌, eqb}
+use Rattle.std.specs.Prelude.{ℕ, Bool, false, cond, ◌||◌, List, [], ◌∷◌, eqb, Option, Some, None}
 use Rattle.look.specs.declared.Way.{Way}
-use Rattle.look.specs.declared.Way.TheVariants.{Uplink, Downlink, Either, Unknown}
+use Rattle.look.specs.declared.Way.TheVariants.{Uplink, Downlink, Either}
 
 abbrev pub one_of : ℕ → List ℕ → Bool
 one_of t [] = false
@@ -21,7 +21,7 @@ from_network =
 abbrev pub from_both : List ℕ
 from_both = 0x64 ∷ []
 
--- the direction that a message type requires
-unfoldable pub way_of : ℕ → Way
+-- the direction that a message type requires; none is that it is no type
+unfoldable pub way_of : ℕ → Option Way
 way_of t =
-    cond (one_of t from_ue) Uplink (cond (one_of t from_network) Downlink (cond (one_of t from_both) Either Unknown))
+    cond (one_of t from_ue) (Some Uplink) (cond (one_of t from_network) (Some Downlink) (cond (one_of t from_both) (Some Either) None))

@@ -2,137 +2,132 @@
 #![tactic(auto)]
 
 ghost use Rattle.std.specs.Prelude.{◌≡◌};
+ghost use Rattle.refusals.specs.Numbers.{refused};
 ghost use Rattle.look.specs.Types.{way_of};
-ghost use Rattle.look.specs.Look.{is_mobility, is_session, is_of, way_in, not_known, alone, not_together, wrong_way, look_of};
+ghost use Rattle.look.specs.Look.{is_mobility, is_session, is_of, way_in, not_known, not_together, wrong_way, look_of};
+
+use refusals::Refusal;
 
 // The direction that a message requires.
-#[derive(Clone, Copy)]
+#[derive(Clone, Copy, Debug, PartialEq, Eq)]
 pub enum Way {
     Uplink,
     Downlink,
     Either,
-    Unknown,
 }
 
 // By the type of a 5GMM message (TS 24.501 Table 9.7.1).
-fn way_of(message_type: u8) -> Way
+#[tactic(auto, unfolding(crate::specs::Types::way_of))]
+fn way_of(message_type: u8) -> Option<Way>
     ensures { result ≡ way_of message_type }
 {
     match message_type {
-        0x41 | 0x43 | 0x45 | 0x48 | 0x4c | 0x4f | 0x51 | 0x55 | 0x57 | 0x59 | 0x5c => Way::Uplink,
-        0x5e..=0x5f => Way::Uplink,
-        0x66..=0x67 => Way::Uplink,
-        0x69 | 0x6d => Way::Uplink,
-        0x42 | 0x44 | 0x50 | 0x52 | 0x54 | 0x56 | 0x58 | 0x5d | 0x65 | 0x68 => Way::Downlink,
-        0x46..=0x47 => Way::Downlink,
-        0x4d..=0x4e => Way::Downlink,
-        0x5a..=0x5b => Way::Downlink,
-        0x6a..=0x6c => Way::Downlink,
-        0x64 => Way::Either,
-        _ => Way::Unknown,
+        0x41
+        | 0x43
+        | 0x45
+        | 0x48
+        | 0x4c
+        | 0x4f
+        | 0x51
+        | 0x55
+        | 0x57
+        | 0x59
+        | 0x5c
+        | 0x5e..=0x5f
+        | 0x66..=0x67
+        | 0x69
+        | 0x6d => Some(Way::Uplink),
+        0x42
+        | 0x44
+        | 0x46..=0x47
+        | 0x4d..=0x4e
+        | 0x50
+        | 0x52
+        | 0x54
+        | 0x56
+        | 0x58
+        | 0x5a..=0x5b
+        | 0x5d
+        | 0x65
+        | 0x68
+        | 0x6a..=0x6c => Some(Way::Downlink),
+        0x64 => Some(Way::Either),
+        _ => None,
     }
 }
 
+#[tactic(auto, unfolding(crate::specs::Look::is_mobility))]
 fn is_mobility(octets: &[u8]) -> bool
     ensures { result ≡ is_mobility octets.now }
 {
-    if octets.len() < 3 {
-        return false;
-    }
-    if octets[0] != 0x7e {
-        return false;
-    }
-    octets[1] % 16 == 0
+    octets.len() >= 3 && octets[0] == 0x7e && octets[1] % 16 == 0
 }
 
+#[tactic(auto, unfolding(crate::specs::Look::is_session))]
 fn is_session(octets: &[u8]) -> bool
     ensures { result ≡ is_session octets.now }
 {
-    if octets.len() < 4 {
-        return false;
-    }
-    octets[0] == 0x2e
+    octets.len() >= 4 && octets[0] == 0x2e
 }
 
+#[tactic(auto, unfolding(crate::specs::Look::is_of, crate::specs::Look::is_mobility))]
 pub fn is_of(message_type: u8, octets: &[u8]) -> bool
     ensures { result ≡ is_of message_type octets.now }
 {
-    if is_mobility(octets) {
-        return octets[2] == message_type;
-    }
-    false
+    is_mobility(octets) && octets[2] == message_type
 }
 
-fn way_in(octets: &[u8]) -> Way
+#[tactic(auto, unfolding(crate::specs::Look::way_in, crate::specs::Look::is_mobility))]
+fn way_in(octets: &[u8]) -> Option<Way>
     ensures { result ≡ way_in octets.now }
 {
     if is_mobility(octets) {
-        return way_of(octets[2]);
+        way_of(octets[2])
+    } else if is_session(octets) {
+        Some(Way::Either)
+    } else {
+        None
     }
-    if is_session(octets) {
-        return Way::Either;
-    }
-    Way::Unknown
 }
 
-// Refusal 9.
+#[tactic(auto, unfolding(crate::specs::Look::not_known))]
 pub fn not_known(octets: &[u8]) -> bool
     ensures { result ≡ not_known octets.now }
 {
-    let way = way_in(octets);
-    match way {
-        Way::Uplink => false,
-        Way::Downlink => false,
-        Way::Either => false,
-        Way::Unknown => true,
-    }
+    way_in(octets).is_none()
 }
 
-// Whether one of two holds without the other.
-fn is_alone(header: bool, message: bool) -> bool
-    ensures { result ≡ alone header message }
-{
-    if header {
-        return !message;
-    }
-    message
-}
-
-// Refusal 10.
+// kept: header types and directions as numbers. The crate stands for the Rust's `validate_message_direction` (README.md), and answers for each of them.
+#[tactic(auto, unfolding(crate::specs::Look::not_together, crate::specs::Look::alone))]
 pub fn not_together(header_type: u8, octets: &[u8]) -> bool
     ensures { result ≡ not_together header_type octets.now }
 {
-    if is_alone(header_type == 3, is_of(0x5d, octets)) {
-        return true;
-    }
-    is_alone(header_type == 4, is_of(0x5e, octets))
+    (header_type == 3) != is_of(0x5d, octets) || (header_type == 4) != is_of(0x5e, octets)
 }
 
-// Refusal 11.
+#[tactic(auto, unfolding(crate::specs::Look::wrong_way))]
 pub fn wrong_way(direction: u8, octets: &[u8]) -> bool
     ensures { result ≡ wrong_way direction octets.now }
 {
-    let way = way_in(octets);
-    match way {
-        Way::Uplink => direction != 0,
-        Way::Downlink => direction != 1,
-        Way::Either => false,
-        Way::Unknown => false,
+    match way_in(octets) {
+        Some(Way::Uplink) => direction != 0,
+        Some(Way::Downlink) => direction != 1,
+        Some(Way::Either) | None => false,
     }
 }
 
-// What refusal 8 carries, and 0 where the message is taken.
-pub fn look(header_type: u8, direction: u8, octets: &[u8]) -> u8
-    ensures { result ≡ look_of header_type direction octets.now }
+#[tactic(auto, unfolding(crate::specs::Look::look_of))]
+pub fn look(header_type: u8, direction: u8, octets: &[u8]) -> Result<(), Refusal>
+    ensures { refused result ≡ look_of header_type direction octets.now }
 {
     if not_known(octets) {
-        return 9;
+        return Err(Refusal::NotKnown);
     }
     if not_together(header_type, octets) {
-        return 10;
+        return Err(Refusal::NotTogether);
     }
     if wrong_way(direction, octets) {
-        return 11;
+        return Err(Refusal::WrongWay);
     }
-    0
+    Ok(())
 }

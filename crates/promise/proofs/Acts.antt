@@ -53,7 +53,7 @@ module _ {X : Type 0} (H : Holding X) where
 
   -- the next COUNT used
   abbrev pub next : X → ℕ → Act
-  next x p = act_of (wraps (H.core x)) (Ok (Forward (state_of p x)).at.next)
+  next x p = act_of (wraps (H.core x)) (Ok (Forward (state_of p x).at.next))
 
   -- What an act on the record at p makes of a context, and of an answer.
   pub record Acts (x : X) (p : ℕ) (a : Act) (o : Outcome X) : Type 0 where

@@ -30,8 +30,8 @@ found-quiet (Err NoCandidate) = tt
 found-quiet (Err WrongCode) = tt
 
 used-taken : (o : Opening) (c : ℕ) → In c (used (act_of false o)) → Takes o c
-used-taken (Ok (Late x)) c (inl e) = inl (ap Ok (Late (sym e)))
-used-taken (Ok (Forward x)) c (inl e) = inr (ap Ok (Forward (sym e)))
+used-taken (Ok (Late x)) c (inl e) = inl (ap (λ (x : ℕ). Ok (Late x)) (sym e))
+used-taken (Ok (Forward x)) c (inl e) = inr (ap (λ (x : ℕ). Ok (Forward x)) (sym e))
 used-taken (Ok (Late x)) c (inr x3) = elim x3 [ ]
 used-taken (Ok (Forward x)) c (inr x4) = elim x4 [ ]
 used-taken (Err NoCandidate) c x3 = elim x3 [ ]

@@ -228,7 +228,7 @@ module _ (z : Context) where
   octet-taken s c (Err NoCandidate) none-late = ((λ h. let q : ◌≡◌ {A = ℕ} 0 1 = cc in absurd (omega arith)), λ e. let q : ◌≡◌ {A = ℕ} 0 1 = cc in absurd (omega arith))
   octet-taken s c (Err WrongCode) none-late = ((λ h. let q : ◌≡◌ {A = ℕ} 0 1 = cc in absurd (omega arith)), λ e. let q : ◌≡◌ {A = ℕ} 0 1 = cc in absurd (omega arith))
   octet-taken s c (Ok (Late n)) none-late = absurd (none-late n refl)
-  octet-taken s c (Ok (Forward n)) none-late = ((λ h. ap Ok (Forward h).1.1), λ e. let q : n ≡ c = cc in (refl, (refl, q)))
+  octet-taken s c (Ok (Forward n)) none-late = ((λ h. ap (λ (n : ℕ). Ok (Forward n)) h.1.1), λ e. let q : n ≡ c = cc in (refl, (refl, q)))
 
   abbrev ahead : ℕ → Option ℕ
   ahead s = forward_of 8 (wraps z.core) (record_at z container_place) s

@@ -206,8 +206,8 @@ module _ (code : ℕ → ℕ → ℕ) where
     left-takes v c q o (inr e) = rw e record { uses = refl; count = refl; number = inl refl; wrote = refl; hands = q }
 
     left-taken : (v c : ℕ) (o : Opening) → TakenAs (toy_left m s o) c (v ∷ []) (0 ∷ []) → Takes o c
-    left-taken v c (Ok (Late c')) t = inl (ap Ok (Late t).count)
-    left-taken v c (Ok (Forward c')) t = inr (ap Ok (Forward t).count)
+    left-taken v c (Ok (Late c')) t = inl (ap (λ (n : ℕ). Ok (Late n)) t.count)
+    left-taken v c (Ok (Forward c')) t = inr (ap (λ (n : ℕ). Ok (Forward n)) t.count)
     left-taken v c (Err NoCandidate) t = let u = t.uses in let z : ◌≡◌ {A = ℕ} 0 1 = cc in absurd (omega arith)
     left-taken v c (Err WrongCode) t = let u = t.uses in let z : ◌≡◌ {A = ℕ} 0 1 = cc in absurd (omega arith)
 

@@ -1,5 +1,5 @@
-use Rattle.std.specs.Prelude.{None, Some}
 -- The two candidates: when each is there, and which COUNT it is.
+use Rattle.std.specs.Prelude.{None, Some}
 use Prim.Native.Nat.{ℕ, ◌+◌, ◌-◌, ◌%◌, ◌^◌, ◌≤◌, ◌<◌}
 use mathlib.Core.Path.{◌≡◌, refl, sym, ap, ◌∙◌, subst}
 use mathlib.Core.Bool.{Bool, true, false, cond, ◌&&◌}
@@ -136,7 +136,7 @@ module _ (size : ℕ) (r : Record) (d : ℕ) where
         eq-eqb (bit r.bits (d - 1)) 0 o.clear,
       )
 
--- the late candidate: there or not
+-- the late candidate, where it is there
 abbrev down_by : ℕ → Record → ℕ → ℕ
 down_by k r s = distance k s (r.next - 1)
 
@@ -144,14 +144,6 @@ module _ (k size : ℕ) (r : Record) (s : ℕ) where
   pub late-there : OpenAt size r (down_by k r s) → late_of k size r s ≡ Some (r.next - 1 - down_by k r s)
   unfolding late_of
   late-there o = simp (open-at size r (down_by k r s) o)
-
-  pub late-not : (OpenAt size r (down_by k r s) → ⊥) → late_of k size r s ≡ None
-  unfolding late_of
-  late-not shut = go (open_at size r (down_by k r s)) refl
-    where
-      go : (b : Bool) → open_at size r (down_by k r s) ≡ b → cond b (Some (r.next - 1 - down_by k r s)) None ≡ None
-      go true e = absurd (shut (at_open size r (down_by k r s) e))
-      go false e = refl
 
 -- it is open, and ends like s
 module _ (k size : ℕ) (r : Record) (s c : ℕ) where

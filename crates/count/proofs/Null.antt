@@ -1,14 +1,13 @@
-use Rattle.std.specs.Prelude.{Option, None, Some, Ok, Err}
 -- Null integrity.
+use Rattle.std.specs.Prelude.{Option, None, Some, Ok, Err}
 use Prim.Native.Nat.{ℕ, ◌%◌, ◌^◌, ◌≤◌, ◌<◌}
 use mathlib.Core.Path.{◌≡◌, refl, sym, ap, ◌∙◌}
 use mathlib.Core.Bool.{Bool, true}
 use mathlib.Core.Logic.{inl, inr}
 use native.Mathlib.Nat.{mod-eq_of_lt}
-use Rattle.count.specs.Rule.{Opening}
+use Rattle.count.specs.Rule.{Opening, exhausted, forward_of, opening, forward_only, use_round}
 use Rattle.count.specs.declared.Taken.TheVariants.{Late, Forward}
 use Rattle.count.specs.declared.Missed.TheVariants.{NoCandidate, WrongCode}
-use Rattle.count.specs.Rule.{exhausted, forward_of, opening, forward_only, use_round}
 use Rattle.count.specs.Run.{State, act, act_of}
 use Rattle.count.specs.Facts.{When, NullHolds}
 use Rattle.count.proofs.Words.{low_of_low}

@@ -1,14 +1,13 @@
-use Rattle.std.specs.Prelude.{Option, None, Some, Ok, Err}
 -- What an opening answers, what it takes a message as, and that its act is valid.
+use Rattle.std.specs.Prelude.{Option, None, Some, Ok, Err}
 use Prim.Native.Nat.{ℕ, ◌%◌, ◌^◌, ◌<◌}
 use mathlib.Core.Path.{◌≡◌, refl, sym, ap, ◌∙◌, subst}
 use mathlib.Core.Bool.{Bool, true, false, cond}
 use mathlib.Core.Logic.{◌⊎◌, inl, inr, ⊎_elim, ◌↔◌}
 use native.Mathlib.Nat.{mod-mod}
-use Rattle.count.specs.Rule.{Opening}
+use Rattle.count.specs.Rule.{Opening, exhausted, forward_of, late_of, try_forward, try, opening, forward_only}
 use Rattle.count.specs.declared.Taken.TheVariants.{Late, Forward}
 use Rattle.count.specs.declared.Missed.TheVariants.{NoCandidate, WrongCode}
-use Rattle.count.specs.Rule.{exhausted, forward_of, late_of, try_forward, try, opening, forward_only}
 use Rattle.count.specs.Run.{State, act_of, Open, Valid, after}
 use Rattle.count.specs.Facts.{NoLate, When, Answers, Takes, Reach, FactsHold}
 use Rattle.count.proofs.Candidates.{never, forward-is, forward-reached, late_is, late-found}

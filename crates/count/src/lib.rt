@@ -32,46 +32,41 @@ pub enum Missed {
     WrongCode,
 }
 
-// How many numbers differ in their k low bits.
-fn reach(k: u8) -> u32
-    requires { k ≤ 8 }
-    ensures { (result ≡ 2 ^ k) × (0 < result) × (result ≤ 256) }
-{
-    1 << k
-}
-
 // How far above a the least number lies that ends in b's k low bits.
 fn distance_up(k: u8, a: u32, b: u32) -> u32
     requires { k ≤ 8 }
     ensures { (result ≡ distance k a b) × (result < 256) }
 {
-    let m = reach(k);
-    (b % m + (m - a % m)) % m
+    b.wrapping_sub(a) % (1 << k)
 }
 
 // Bit k, clear past the last.
+#[tactic(auto, unfolding(crate::specs::Rule::bit), using(crate::proofs::Words::none_past))]
 fn bit_at(bits: u64, k: u32) -> u64
     ensures { result ≡ bit bits k }
 {
-    if k < 64 { (bits >> k) % 2 } else { 0 }
+    bits.checked_shr(k).unwrap_or(0) % 2
 }
 
 // The bits so many places up, those past the last dropped.
+#[tactic(auto, using(crate::proofs::Words::moved_out))]
 fn moved_up(bits: u64, places: u32) -> u64
     ensures { result ≡ bits * 2 ^ places % 2 ^ 64 }
 {
-    if places < 64 { bits << places } else { 0 }
+    bits.checked_shl(places).unwrap_or(0)
 }
 
 // The size low bits set.
+#[tactic(auto, using(crate::proofs::Words::ones_down))]
 fn low_bits(size: u8) -> u64
     requires { size ≤ 64 }
     ensures { result ≡ 2 ^ size - 1 }
 {
-    if size < 64 { (1 << size) - 1 } else { u64::MAX }
+    u64::MAX.checked_shr(64 - size as u32).unwrap_or(0)
 }
 
 // The bit of the former highest COUNT after m places up, if there was one.
+#[tactic(auto, unfolding(crate::specs::Rule::former_highest))]
 fn former_highest(next: u32, m: u32) -> u64
     requires { 0 < m }
     ensures { result ≡ former_highest next m % 2 ^ 64 }
@@ -81,50 +76,34 @@ fn former_highest(next: u32, m: u32) -> u64
 
 impl Record {
     // The least COUNT from next on whose k low bits are those of s; with null integrity (wraps) it goes round.
+    #[tactic(auto, unfolding(crate::specs::Rule::forward_of))]
     pub fn forward(self, k: u8, wraps: bool, s: u8) -> Option<u32>
         requires { k ≤ 8 }
         ensures { result ≡ forward_of k wraps self s }
     {
-        let next = self.next;
-        if EXHAUSTED <= next {
+        if EXHAUSTED <= self.next {
             return None;
         }
-        let c = next + distance_up(k, next, s as u32);
-        if c < EXHAUSTED {
-            return Some(c);
-        }
-        if wraps {
-            return Some(c % EXHAUSTED);
-        }
-        None
+        let c = self.next + distance_up(k, self.next, s as u32);
+        (wraps || c < EXHAUSTED).then_some(c % EXHAUSTED)
     }
 
     // The COUNT below the highest whose last octet is s, if it is open late.
+    #[tactic(auto, unfolding(crate::specs::Rule::late_of, crate::specs::Rule::open_at))]
     pub fn late(self, size: u8, s: u8) -> Option<u32>
         ensures { result ≡ late_of 8 size self s }
     {
-        let next = self.next;
-        if next == 0 {
-            return None;
-        }
-        let h = next - 1;
+        let h = self.next.checked_sub(1)?;
         let d = distance_up(8, s as u32, h);
-        if d < 1 {
-            return None;
+        if 1 <= d && d <= size as u32 && d <= h && bit_at(self.bits, d - 1) == 0 {
+            Some(h - d)
+        } else {
+            None
         }
-        if (size as u32) < d {
-            return None;
-        }
-        if h < d {
-            return None;
-        }
-        if bit_at(self.bits, d - 1) == 0 {
-            return Some(h - d);
-        }
-        None
     }
 
     // How far a forward c lies above next, or a late one below the highest used.
+    #[tactic(auto, unfolding(crate::specs::Rule::distance_of))]
     pub fn distance_to(self, c: u32) -> u32
         requires { self.next ≤ c + exhausted }
         ensures { result ≡ distance_of self c }
@@ -135,20 +114,21 @@ impl Record {
         }
         let below = next - 1 - c;
         if below <= 64 {
-            return below;
+            below
+        } else {
+            EXHAUSTED - (next - c)
         }
-        EXHAUSTED - (next - c)
     }
 
     // Forward use of c.
+    #[tactic(auto, unfolding(crate::specs::Rule::use_forward), using(crate::proofs::Words::or_moved, crate::proofs::Bits::former_lt))]
     pub fn advance(self, size: u8, c: u32) -> Record
         requires { (self.next ≤ c) × (c < exhausted) × (size ≤ 64) }
         ensures { result ≡ use_forward size self c }
     {
-        let next = self.next;
-        let m = c + 1 - next;
+        let m = c + 1 - self.next;
         let kept = moved_up(self.bits, m);
-        let highest = former_highest(next, m);
+        let highest = former_highest(self.next, m);
         Record {
             next: c + 1,
             bits: (kept | highest) & low_bits(size),
@@ -156,38 +136,40 @@ impl Record {
     }
 
     // Use of c under null integrity.
+    #[tactic(auto, unfolding(crate::specs::Rule::use_round))]
     pub fn go_round(self, c: u32) -> Record
         requires { c < exhausted }
         ensures { result ≡ use_round self c }
     {
         Record {
             next: (c + 1) % EXHAUSTED,
-            bits: self.bits,
+            ..self
         }
     }
 
     // Late use of c.
+    #[tactic(auto, unfolding(crate::specs::Rule::use_late))]
     pub fn use_late(self, c: u32) -> Record
         requires { (c + 1 < self.next) × (self.next ≤ c + 65) }
         ensures { result ≡ use_late self c }
     {
-        let next = self.next;
-        let k = next - (c + 2);
+        let k = self.next - (c + 2);
         Record {
-            next,
             bits: self.bits | (1 << k),
+            ..self
         }
     }
 
     // The window's size was old and becomes new.
+    #[tactic(auto, unfolding(crate::specs::Rule::resize_of), using(crate::proofs::Words::ones_le, crate::proofs::Words::or_sized))]
     pub fn resize(self, old: u8, new: u8) -> Record
         requires { (old ≤ 64) × (new ≤ 64) }
         ensures { result ≡ resize_of old new self }
     {
         let known = low_bits(old.min(new));
         Record {
-            next: self.next,
             bits: (self.bits & known) | (low_bits(new) - known),
+            ..self
         }
     }
 }

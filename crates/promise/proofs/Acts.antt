@@ -1,5 +1,5 @@
-use Rattle.std.specs.Prelude.{Ok, Err}
 -- What calls on any context share: each does one act on one record, and answers the COUNT that it used.
+use Rattle.std.specs.Prelude.{Ok, Err}
 use Prim.Native.Nat.{ℕ}
 use mathlib.Core.Path.{◌≡◌, refl, sym, ap, ◌∙◌, subst}
 use mathlib.Core.Bool.{Bool, true, false, cond}
@@ -7,10 +7,9 @@ use mathlib.Core.List.{List, [], ◌∷◌}
 use lib.ListN.{length, set}
 use lib.Dec.{eqb}
 use Rattle.count.specs.declared.Record.{Record}
-use Rattle.count.specs.Rule.{Opening}
+use Rattle.count.specs.Rule.{Opening, use_late}
 use Rattle.count.specs.declared.Taken.TheVariants.{Late, Forward}
 use Rattle.count.specs.declared.Missed.TheVariants.{NoCandidate, WrongCode}
-use Rattle.count.specs.Rule.{use_late}
 use Rattle.count.specs.Run.{State, Act, stay, forward, round, use_by, act, act_of, used}
 use Rattle.count.specs.Machine.{state_at, records_after}
 use Rattle.refusals.specs.Order.{refused_or}
@@ -54,7 +53,7 @@ module _ {X : Type 0} (H : Holding X) where
 
   -- the next COUNT used
   abbrev pub next : X → ℕ → Act
-  next x p = act_of (wraps (H.core x)) (Ok (Forward (state_of p x)).at.next)
+  next x p = act_of (wraps (H.core x)) (Ok (Forward (state_of p x).at.next))
 
   -- What an act on the record at p makes of a context, and of an answer.
   pub record Acts (x : X) (p : ℕ) (a : Act) (o : Outcome X) : Type 0 where

@@ -1,5 +1,5 @@
-use Rattle.std.specs.Prelude.{Ok, Err}
 -- When a call takes a message as a COUNT: by what its opening finds.
+use Rattle.std.specs.Prelude.{Ok, Err}
 use Prim.Native.Nat.{ℕ}
 use mathlib.Core.Path.{◌≡◌, sym, ap, ◌∙◌}
 use mathlib.Core.Bool.{true, false}
@@ -38,8 +38,8 @@ module _ {X A : Type 0} (H : Holding X) (v : A → Values) (no : ℕ → A) (yes
   pub names : (o : Opening) (c : ℕ) → (left o).values.uses ≡ true → (left o).values.count ≡ c → Takes o c
   names (Err NoCandidate) c u e = never-uses 6 u
   names (Err WrongCode) c u e = never-uses 7 u
-  names (Ok (Late c')) c u e = inl (ap Late (sym (a.count c') ∙ e))
-  names (Ok (Forward c')) c u e = inr (ap Forward (sym (a.count c') ∙ e))
+  names (Ok (Late c')) c u e = inl (ap (λ (n : ℕ). Ok (Late n)) (sym (a.count c') ∙ e))
+  names (Ok (Forward c')) c u e = inr (ap (λ (n : ℕ). Ok (Forward n)) (sym (a.count c') ∙ e))
 
   took : (c : ℕ) (inner : List ℕ) → plain_of_lem c ≡ inner → (o : Opening) → Takes o c → TakenAs (left o) c inner out
   took c inner q o (inl e) =

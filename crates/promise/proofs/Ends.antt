@@ -1,15 +1,14 @@
-use Rattle.std.specs.Prelude.{Option, Ok, Err}
 -- Two ends and a bad channel: the receiver as a run of one record.
+use Rattle.std.specs.Prelude.{Option, Ok, Err}
 use Prim.Native.Nat.{ℕ, ◌+◌, ◌%◌, ◌≤◌, ◌<◌}
 use mathlib.Core.Path.{◌≡◌, refl, sym, ap, ◌∙◌, subst}
 use mathlib.Core.Bool.{Bool, true, false, cond}
 use mathlib.Core.Logic.{◌⊎◌, inl, inr, ⊎_elim, ◌↔◌}
 use mathlib.Core.List.{List, [], ◌∷◌, ◌++◌}
 use native.Mathlib.Omega.{arith}
-use Rattle.count.specs.Rule.{Opening}
+use Rattle.count.specs.Rule.{Opening, exhausted, opening, late_of, forward_of}
 use Rattle.count.specs.declared.Taken.TheVariants.{Late, Forward}
 use Rattle.count.specs.declared.Missed.TheVariants.{NoCandidate, WrongCode}
-use Rattle.count.specs.Rule.{exhausted, opening, late_of, forward_of}
 use Rattle.count.specs.Run.{State, Act, act, act_of, used, Within, Valid, after, Fair, history, In, StillOpen}
 use Rattle.count.specs.Facts.{Takes, Reach, Facts}
 use Rattle.count.proofs.Candidates.{forward-reached, late-found}
@@ -31,8 +30,8 @@ found-quiet (Err NoCandidate) = tt
 found-quiet (Err WrongCode) = tt
 
 used-taken : (o : Opening) (c : ℕ) → In c (used (act_of false o)) → Takes o c
-used-taken (Ok (Late x)) c (inl e) = inl (ap Ok (Late (sym e)))
-used-taken (Ok (Forward x)) c (inl e) = inr (ap Ok (Forward (sym e)))
+used-taken (Ok (Late x)) c (inl e) = inl (ap (λ (x : ℕ). Ok (Late x)) (sym e))
+used-taken (Ok (Forward x)) c (inl e) = inr (ap (λ (x : ℕ). Ok (Forward x)) (sym e))
 used-taken (Ok (Late x)) c (inr x3) = elim x3 [ ]
 used-taken (Ok (Forward x)) c (inr x4) = elim x4 [ ]
 used-taken (Err NoCandidate) c x3 = elim x3 [ ]

@@ -1,16 +1,15 @@
-use Rattle.std.specs.Prelude.{Option, Ok, Err}
 -- What a context holds stays within its limits.
+use Rattle.std.specs.Prelude.{Option, Ok, Err}
 use Prim.Native.Nat.{ℕ, ◌≤◌, ◌<◌}
 use mathlib.Core.Path.{◌≡◌, refl, sym, ap, ◌∙◌, subst}
 use mathlib.Core.Bool.{Bool, true, false, cond}
 use native.Mathlib.Omega.{arith}
 use lib.ListN.{length}
 use lib.Dec.{eqb}
-use Rattle.count.specs.Rule.{Opening}
+use Rattle.count.specs.Rule.{Opening, exhausted, forward_of, try, use_forward, use_round, use_late, resize_of, close_of}
 use Rattle.count.specs.declared.Taken.TheVariants.{Late, Forward}
 use Rattle.count.specs.declared.Missed.TheVariants.{NoCandidate, WrongCode}
 use Rattle.count.specs.declared.Record.{Record}
-use Rattle.count.specs.Rule.{exhausted, forward_of, try, use_forward, use_round, use_late, resize_of, close_of}
 use Rattle.count.specs.Run.{State, Act, stay, uses, resize, close, forward, late, round, act, act_of}
 use Rattle.count.specs.Facts.{When}
 use Rattle.count.specs.Machine.{seen, view}

@@ -1,5 +1,5 @@
-use Rattle.std.specs.Prelude.{None, Ok}
 -- Messages opened after any calls.
+use Rattle.std.specs.Prelude.{None, Ok}
 use Prim.Native.Nat.{ℕ, ◌%◌, ◌^◌}
 use mathlib.Core.Path.{◌≡◌, sym, subst}
 use mathlib.Core.Bool.{Bool, true, false}

@@ -1,5 +1,5 @@
-use Rattle.std.specs.Prelude.{Option, None, Some, Ok, Err}
 -- Demand 2: when seals and container calls succeed, and what is said of octets beside.
+use Rattle.std.specs.Prelude.{Option, None, Some, Ok, Err}
 use Prim.Native.Nat.{ℕ, suc, ◌+◌, ◌*◌, ◌/◌, ◌%◌, ◌≤◌, ◌<◌}
 use mathlib.Core.Path.{◌≡◌, refl, sym, ap, ◌∙◌, subst}
 use mathlib.Core.Bool.{Bool, true, false, not, ◌&&◌, ◌||◌}
@@ -9,10 +9,9 @@ use native.Mathlib.Omega.{arith}
 use lib.ListN.{length, get_or}
 use lib.Dec.{eqb, ltb, leb}
 use borrow.Author.Tests.{eqb-true, eq-eqb, ltb-false, le-ltb, leb-false, lt-leb, not-false}
-use Rattle.count.specs.Rule.{Opening}
+use Rattle.count.specs.Rule.{Opening, exhausted, forward_of, forward_only}
 use Rattle.count.specs.declared.Taken.TheVariants.{Late, Forward}
 use Rattle.count.specs.declared.Missed.TheVariants.{NoCandidate, WrongCode}
-use Rattle.count.specs.Rule.{exhausted, forward_of, forward_only}
 use Rattle.count.proofs.Openings.{answers}
 use Rattle.count.proofs.Candidates.{never}
 use Rattle.refusals.specs.Order.{◌when◌, first}
@@ -229,7 +228,7 @@ module _ (z : Context) where
   octet-taken s c (Err NoCandidate) none-late = ((λ h. let q : ◌≡◌ {A = ℕ} 0 1 = cc in absurd (omega arith)), λ e. let q : ◌≡◌ {A = ℕ} 0 1 = cc in absurd (omega arith))
   octet-taken s c (Err WrongCode) none-late = ((λ h. let q : ◌≡◌ {A = ℕ} 0 1 = cc in absurd (omega arith)), λ e. let q : ◌≡◌ {A = ℕ} 0 1 = cc in absurd (omega arith))
   octet-taken s c (Ok (Late n)) none-late = absurd (none-late n refl)
-  octet-taken s c (Ok (Forward n)) none-late = ((λ h. ap Ok (Forward h).1.1), λ e. let q : n ≡ c = cc in (refl, (refl, q)))
+  octet-taken s c (Ok (Forward n)) none-late = ((λ h. ap (λ (n : ℕ). Ok (Forward n)) h.1.1), λ e. let q : n ≡ c = cc in (refl, (refl, q)))
 
   abbrev ahead : ℕ → Option ℕ
   ahead s = forward_of 8 (wraps z.core) (record_at z container_place) s

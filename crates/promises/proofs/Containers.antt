@@ -1,5 +1,5 @@
-use Rattle.std.specs.Prelude.{None, Some, Ok}
 -- Demand 2: containers and estimates.
+use Rattle.std.specs.Prelude.{None, Some, Ok}
 use Prim.Native.Nat.{ℕ, ◌+◌, ◌*◌, ◌/◌, ◌%◌, ◌≤◌, ◌<◌}
 use mathlib.Core.Path.{◌≡◌, refl, sym, ap, ◌∙◌, subst}
 use mathlib.Core.Bool.{Bool, true, false, cond, not, ◌||◌}

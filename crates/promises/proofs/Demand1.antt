@@ -1,5 +1,5 @@
-use Rattle.std.specs.Prelude.{Option, None, Some, Ok, Err}
 -- Demand 1.
+use Rattle.std.specs.Prelude.{Option, None, Some, Ok, Err}
 use Prim.Native.Nat.{ℕ, zero, suc, ◌+◌, ◌-◌, ◌≤◌, ◌<◌}
 use mathlib.Core.Path.{◌≡◌, refl, sym, ap, ◌∙◌, subst}
 use mathlib.Core.Bool.{Bool, true, false, cond, not, ◌||◌}
@@ -9,10 +9,9 @@ use native.Mathlib.Omega.{arith}
 use lib.ListN.{length, get_or, drop, length-append, length-drop}
 use lib.Dec.{eqb, ltb}
 use borrow.Author.Tests.{eqb-true, eqb-false, lt-ltb, le-ltb}
-use Rattle.count.specs.Rule.{Opening}
+use Rattle.count.specs.Rule.{Opening, exhausted, distance_of, forward_of, try_forward, forward_only}
 use Rattle.count.specs.declared.Taken.TheVariants.{Late, Forward}
 use Rattle.count.specs.declared.Missed.TheVariants.{NoCandidate, WrongCode}
-use Rattle.count.specs.Rule.{exhausted, distance_of, forward_of, try_forward, forward_only}
 use Rattle.count.specs.Run.{In}
 use Rattle.count.proofs.Candidates.{never}
 use Rattle.count.proofs.Openings.{answers}
@@ -62,15 +61,15 @@ with-8 s eight (inl e) = inl e
 with-8 s eight (inr e) = inr (e, eight)
 
 -- the N1-to-S1 container has no code, so none is wrong
-never-wrong : (l : Option ℕ) → try_forward (λ c. true) l ≡ (Err WrongCode) → ⊥
+never-wrong : (l : Option ℕ) → try_forward (λ c. true) l ≡ Err WrongCode → ⊥
 never-wrong None e = let z : ◌≡◌ {A = ℕ} 0 1 = cc in omega arith
 never-wrong (Some c) e = let z : ◌≡◌ {A = ℕ} 0 1 = cc in omega arith
 
-octet-not-wrong : (x : Context) (n : ℕ) → octet_found x n ≡ (Err WrongCode) → ⊥
+octet-not-wrong : (x : Context) (n : ℕ) → octet_found x n ≡ Err WrongCode → ⊥
 unfolding forward_only
 octet-not-wrong x n = never-wrong (forward_of 8 (wraps x.core) (record_at x container_place) n)
 
-told-octet : (s : List ℕ) (x : Context) (n : ℕ) (o : Opening) → In 6 s → (o ≡ (Err WrongCode) → ⊥)
+told-octet : (s : List ℕ) (x : Context) (n : ℕ) (o : Opening) → In 6 s → (o ≡ Err WrongCode → ⊥)
     → Told s x [] (outcome verify_values (received x container_place (octet_refused x n) (octet_used x n) o))
 told-octet s x n (Err NoCandidate) six not-wrong = told-alone s x [] 6 six
 told-octet s x n (Err WrongCode) six not-wrong = absurd (not-wrong refl)

@@ -1,5 +1,5 @@
-use Rattle.std.specs.Prelude.{None, Ok, Err}
 -- Null integrity, over the calls.
+use Rattle.std.specs.Prelude.{None, Ok, Err}
 use Prim.Native.Nat.{ℕ, ◌+◌, ◌%◌, ◌≤◌, ◌<◌}
 use mathlib.Core.Path.{◌≡◌, refl, sym, ap, ◌∙◌}
 use mathlib.Core.Bool.{Bool, true}
@@ -8,10 +8,9 @@ use mathlib.Core.List.{List, [], ◌∷◌}
 use native.Mathlib.Omega.{arith}
 use lib.ListN.{get_or, drop}
 use borrow.Author.Tests.{eqb-true}
-use Rattle.count.specs.Rule.{Opening}
+use Rattle.count.specs.Rule.{Opening, exhausted, distance, forward_of, forward_only, use_round}
 use Rattle.count.specs.declared.Taken.TheVariants.{Late, Forward}
 use Rattle.count.specs.declared.Missed.TheVariants.{NoCandidate, WrongCode}
-use Rattle.count.specs.Rule.{exhausted, distance, forward_of, forward_only, use_round}
 use Rattle.count.specs.Run.{State, Act, stay, uses, forward, late, round, resize, close, act, act_of, used}
 use Rattle.count.proofs.Null.{null}
 use Rattle.count.proofs.Candidates.{never}
@@ -125,7 +124,7 @@ module _ (x : Context) (w : wraps x.core ≡ true) (p b d q : ℕ) (m : List ℕ
       ∙ (answers fit None (forward_of 8 true (record_at x p) (get_or m (q + 4) 0)) (Ok (Forward candidate))).1
       ((λ c e. never e), (null 8 fit (record_of p x) (get_or m (q + 4) 0)).goes-round h, fits_all x w b d q m candidate)
 
-  found_none : exhausted ≤ next_at x p → taken ≡ (Err NoCandidate)
+  found_none : exhausted ≤ next_at x p → taken ≡ Err NoCandidate
   found_none h = verify-only x w p b d q m ∙ (null 8 fit (record_of p x) (get_or m (q + 4) 0)).stays-exhausted h
 
 pub null-holds : NullHolds

@@ -1,5 +1,5 @@
-use Rattle.std.specs.Prelude.{Ok, Err}
 -- The calls on a 5GS context: each does one act on one record, and answers the COUNT that it used.
+use Rattle.std.specs.Prelude.{Ok, Err}
 use Prim.Native.Nat.{ℕ, ◌%◌}
 use mathlib.Core.Path.{◌≡◌, refl, ap, ◌∙◌}
 use mathlib.Core.Bool.{Bool, true, false, cond}
@@ -10,10 +10,9 @@ use lib.ListN.{length, get_or, set, drop}
 use lib.Dec.{eqb, ltb}
 use Rattle.aes.specs.Keys.{key_of}
 use Rattle.count.specs.declared.Record.{Record}
-use Rattle.count.specs.Rule.{Opening}
+use Rattle.count.specs.Rule.{Opening, resize_of, close_of, use_late, forward_only, distance_of}
 use Rattle.count.specs.declared.Taken.TheVariants.{Late, Forward}
 use Rattle.count.specs.declared.Missed.TheVariants.{NoCandidate, WrongCode}
-use Rattle.count.specs.Rule.{resize_of, close_of, use_late, forward_only, distance_of}
 use Rattle.count.specs.Run.{Act, stay, resize, close, act, act_of, used}
 use borrow.Author.Tests.{eqb-true}
 use Rattle.count.specs.Machine.{records_after}

@@ -8,8 +8,7 @@ use native.Mathlib.Omega.{arith}
 use lib.ListN.{length, get_or, drop}
 use lib.Dec.{eqb}
 use borrow.Author.Tests.{eqb-true, eq-eqb, ne_eqb, le-ltb}
-use Rattle.count.specs.Rule.{Opening}
-use Rattle.count.specs.Rule.{exhausted, distance_of}
+use Rattle.count.specs.Rule.{Opening, exhausted, distance_of}
 use Rattle.nas_core.specs.declared.Core.{Core}
 use Rattle.nas_core.specs.Keyed.{payload}
 use Rattle.nas_core.specs.Refusals.{limit, unbuilt, core_fault}

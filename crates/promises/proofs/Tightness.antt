@@ -1,5 +1,5 @@
-use Rattle.std.specs.Prelude.{Some}
 -- No second answer fits, and wrong contexts do not keep demand 3.
+use Rattle.std.specs.Prelude.{Some}
 use Prim.Native.Nat.{ℕ, ◌-◌, ◌%◌, ◌≤◌, ◌<◌}
 use mathlib.Core.Path.{◌≡◌, refl, sym, ap, ◌∙◌, subst}
 use mathlib.Core.Bool.{Bool, true, cond}

@@ -1,5 +1,5 @@
-use Rattle.std.specs.Prelude.{None, Ok, Err}
 -- Demand 1.
+use Rattle.std.specs.Prelude.{None, Ok, Err}
 use Prim.Native.Nat.{ℕ, ◌+◌, ◌-◌, ◌≤◌, ◌<◌, ◌/◌, ◌%◌}
 use mathlib.Core.Path.{◌≡◌, refl, sym, ap, ◌∙◌, subst}
 use mathlib.Core.Bool.{Bool, true, false, cond, not, ◌||◌}
@@ -9,10 +9,9 @@ use native.Mathlib.Omega.{arith}
 use lib.ListN.{length, drop, length-drop}
 use lib.Dec.{eqb, ltb}
 use borrow.Author.Tests.{eqb-true, eqb-false, lt-ltb, le-ltb, ne_eqb}
-use Rattle.count.specs.Rule.{Opening}
+use Rattle.count.specs.Rule.{Opening, exhausted, forward_of, forward_only}
 use Rattle.count.specs.declared.Taken.TheVariants.{Late, Forward}
 use Rattle.count.specs.declared.Missed.TheVariants.{NoCandidate, WrongCode}
-use Rattle.count.specs.Rule.{exhausted, forward_of, forward_only}
 use Rattle.count.specs.Run.{In}
 use Rattle.count.proofs.Candidates.{never}
 use Rattle.count.proofs.Openings.{answers}

@@ -1,5 +1,5 @@
-use Rattle.std.specs.Prelude.{None}
 -- What a context holds stays without fault, under null integrity too.
+use Rattle.std.specs.Prelude.{None}
 use Prim.Native.Nat.{ℕ, zero, suc, ◌%◌, ◌≤◌, ◌<◌}
 use mathlib.Core.Path.{◌≡◌, refl}
 use mathlib.Core.Bool.{Bool, true, false, cond, ◌||◌}

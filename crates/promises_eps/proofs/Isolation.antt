@@ -1,5 +1,5 @@
-use Rattle.std.specs.Prelude.{Ok, Err}
 -- Isolation: what a call answers hangs on keys, codes, size, its own record and the context's faults.
+use Rattle.std.specs.Prelude.{Ok, Err}
 use Prim.Native.Nat.{ℕ, ◌<◌}
 use mathlib.Core.Path.{◌≡◌, refl, sym, ap, ◌∙◌, subst}
 use mathlib.Core.Bool.{Bool, true, false, cond}

@@ -1,5 +1,5 @@
-use Rattle.std.specs.Prelude.{None, Ok, Err}
 -- Null integrity, over the calls.
+use Rattle.std.specs.Prelude.{None, Ok, Err}
 use Prim.Native.Nat.{ℕ, ◌+◌, ◌%◌, ◌≤◌, ◌<◌}
 use mathlib.Core.Path.{◌≡◌, refl, sym, ap, ◌∙◌}
 use mathlib.Core.Bool.{Bool, true, false, cond}
@@ -8,10 +8,9 @@ use mathlib.Core.List.{List, [], ◌∷◌}
 use native.Mathlib.Omega.{arith}
 use lib.ListN.{length, get_or, take}
 use borrow.Author.Tests.{eqb-true}
-use Rattle.count.specs.Rule.{Opening}
+use Rattle.count.specs.Rule.{Opening, exhausted, distance, forward_of, forward_only, use_round}
 use Rattle.count.specs.declared.Taken.TheVariants.{Late, Forward}
 use Rattle.count.specs.declared.Missed.TheVariants.{NoCandidate, WrongCode}
-use Rattle.count.specs.Rule.{exhausted, distance, forward_of, forward_only, use_round}
 use Rattle.count.specs.Run.{State, Act, stay, uses, forward, late, round, resize, close, act, act_of, used}
 use Rattle.count.proofs.Null.{null}
 use Rattle.count.proofs.Candidates.{never}
@@ -121,10 +120,10 @@ module _ (x : Context) (w : wraps x.core ≡ true) where
   short-zero c m = rw (code-zero c 0 0 (take 2 m))
 
   -- an exhausted record
-  found_none : (p : ℕ) (m : List ℕ) → exhausted ≤ next_at x p → found x p m ≡ (Err NoCandidate)
+  found_none : (p : ℕ) (m : List ℕ) → exhausted ≤ next_at x p → found x p m ≡ Err NoCandidate
   found_none p m h = go (is_request m)
     where
-      go : (t : Bool) → cond t (request_as x.core (record_at x p) m) (verify_of x.core (record_at x p) bearer p 1 m) ≡ (Err NoCandidate)
+      go : (t : Bool) → cond t (request_as x.core (record_at x p) m) (verify_of x.core (record_at x p) bearer p 1 m) ≡ Err NoCandidate
       go true = request-only p m ∙ (null 5 (λ c. short_fits x.core c m) (record_of p x) (get_or m 1 0 % 32)).stays-exhausted h
       go false = verify-only p m ∙ (null 8 (λ c. fits x.core c bearer p 1 m) (record_of p x) (get_or m 5 0)).stays-exhausted h
 

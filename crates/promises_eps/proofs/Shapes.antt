@@ -10,8 +10,7 @@ use lib.Dec.{eqb, ltb}
 use borrow.Author.Tests.{eqb-true}
 use Rattle.aes.specs.Keys.{key_of}
 use Rattle.count.specs.declared.Record.{Record}
-use Rattle.count.specs.Rule.{Opening}
-use Rattle.count.specs.Rule.{resize_of, close_of, use_late, distance_of}
+use Rattle.count.specs.Rule.{Opening, resize_of, close_of, use_late, distance_of}
 use Rattle.count.specs.Run.{Act, stay, resize, close, act, act_of, used}
 use Rattle.count.specs.Machine.{records_after}
 use Rattle.refusals.specs.Order.{◌when◌, first, refused_or}

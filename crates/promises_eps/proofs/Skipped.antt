@@ -1,5 +1,5 @@
-use Rattle.std.specs.Prelude.{None, Some, Ok, Err}
 -- The distance that an open tells.
+use Rattle.std.specs.Prelude.{None, Some, Ok, Err}
 use Prim.Native.Nat.{ℕ, ◌+◌, ◌-◌, ◌%◌, ◌≤◌, ◌<◌}
 use mathlib.Core.Path.{◌≡◌, refl, sym, ap, ◌∙◌, subst}
 use mathlib.Core.Bool.{Bool, true, false, cond}
@@ -10,10 +10,9 @@ use lib.ListN.{get_or}
 use lib.Dec.{eqb}
 use borrow.Author.Tests.{eqb-true, eqb-false}
 use Rattle.count.specs.declared.Record.{Record}
-use Rattle.count.specs.Rule.{Opening}
+use Rattle.count.specs.Rule.{Opening, exhausted, distance_of, forward_of, late_of, opening, forward_only}
 use Rattle.count.specs.declared.Taken.TheVariants.{Late, Forward}
 use Rattle.count.specs.declared.Missed.TheVariants.{NoCandidate, WrongCode}
-use Rattle.count.specs.Rule.{exhausted, distance_of, forward_of, late_of, opening, forward_only}
 use Rattle.count.proofs.Candidates.{never}
 use Rattle.count.proofs.Distance.{distance-lt}
 use Rattle.count.proofs.Openings.{answers}

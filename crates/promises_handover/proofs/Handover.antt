@@ -1,5 +1,5 @@
-use Rattle.std.specs.Prelude.{Option, None, Some, Ok, Err}
 -- An open across connections is the open call of the connection that it answers; so what holds of the calls holds of any mixture.
+use Rattle.std.specs.Prelude.{Option, None, Some, Ok, Err}
 use Prim.Native.Nat.{ℕ, ◌≤◌, ◌<◌}
 use mathlib.Core.Path.{◌≡◌, refl, sym, ap, subst, ◌∙◌}
 use mathlib.Core.Bool.{Bool, true, false, cond, not, ◌&&◌}
@@ -8,10 +8,9 @@ use mathlib.Core.List.{List, [], ◌∷◌, ◌++◌}
 use native.Mathlib.Omega.{arith}
 use lib.ListN.{length, get_or}
 use lib.Dec.{eqb}
-use Rattle.count.specs.Rule.{Opening}
+use Rattle.count.specs.Rule.{Opening, exhausted, late_of, forward_of, try_forward, try, opening, distance_of}
 use Rattle.count.specs.declared.Taken.TheVariants.{Late, Forward}
 use Rattle.count.specs.declared.Missed.TheVariants.{NoCandidate, WrongCode}
-use Rattle.count.specs.Rule.{exhausted, late_of, forward_of, try_forward, try, opening, distance_of}
 use Rattle.count.specs.Run.{NoneTwice}
 use Rattle.nas_core.specs.declared.Core.{Core}
 use Rattle.nas_core.specs.Keyed.{wraps}
@@ -166,7 +165,7 @@ counts x (s ∷ ss) p =
 
 -- what the opening of a message finds, and its candidates
 abbrev Misses : Opening → Type 0
-Misses o = (o ≡ (Err NoCandidate)) ⊎ (o ≡ (Err WrongCode))
+Misses o = (o ≡ Err NoCandidate) ⊎ (o ≡ Err WrongCode)
 
 module _ (fit : ℕ → Bool) where
   abbrev FitsNeither : Option ℕ → Option ℕ → Type 0

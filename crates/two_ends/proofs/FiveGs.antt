@@ -6,8 +6,7 @@ use mathlib.Core.Logic.{◌⊎◌, inl, inr, ⊎_elim, ◌↔◌}
 use mathlib.Core.List.{List}
 use native.Mathlib.Omega.{arith}
 use lib.ListN.{length}
-use Rattle.count.specs.Rule.{Opening}
-use Rattle.count.specs.Rule.{exhausted, opening, resize_of}
+use Rattle.count.specs.Rule.{Opening, exhausted, opening, resize_of}
 use Rattle.count.specs.Run.{State, Act, uses, resize, forward, act, act_of, used}
 use Rattle.count.specs.Machine.{seen}
 use Rattle.count.specs.Facts.{Takes}

@@ -1,5 +1,5 @@
-use Rattle.std.specs.Prelude.{Ok, Err}
 -- The toy link.
+use Rattle.std.specs.Prelude.{Ok, Err}
 use Prim.Native.Nat.{ℕ, zero, suc, ◌+◌, ◌%◌, ◌≤◌, ◌<◌}
 use mathlib.Core.Path.{◌≡◌, refl, sym, ap, ◌∙◌, subst}
 use mathlib.Core.Bool.{Bool, true, false, cond}
@@ -9,10 +9,9 @@ use native.Mathlib.Omega.{arith}
 use lib.Dec.{eqb, ltb, leb}
 use lib.ListN.{drop}
 use borrow.Author.Tests.{eqb-true, eq-eqb, lt-ltb, ltb-true, leb-true}
-use Rattle.count.specs.Rule.{Opening}
+use Rattle.count.specs.Rule.{Opening, exhausted, bit, distance, forward_of, open_at, late_of, opening, former_highest, use_forward, use_late, resize_of}
 use Rattle.count.specs.declared.Taken.TheVariants.{Late, Forward}
 use Rattle.count.specs.declared.Missed.TheVariants.{NoCandidate, WrongCode}
-use Rattle.count.specs.Rule.{exhausted, bit, distance, forward_of, open_at, late_of, opening, former_highest, use_forward, use_late, resize_of}
 use Rattle.count.specs.Run.{State, uses, forward, resize, act, act_of, used}
 use Rattle.count.proofs.Candidates.{clash}
 use Rattle.count.proofs.Distance.{le-or-lt}
@@ -207,8 +206,8 @@ module _ (code : ℕ → ℕ → ℕ) where
     left-takes v c q o (inr e) = rw e record { uses = refl; count = refl; number = inl refl; wrote = refl; hands = q }
 
     left-taken : (v c : ℕ) (o : Opening) → TakenAs (toy_left m s o) c (v ∷ []) (0 ∷ []) → Takes o c
-    left-taken v c (Ok (Late c')) t = inl (ap Ok (Late t).count)
-    left-taken v c (Ok (Forward c')) t = inr (ap Ok (Forward t).count)
+    left-taken v c (Ok (Late c')) t = inl (ap (λ (n : ℕ). Ok (Late n)) t.count)
+    left-taken v c (Ok (Forward c')) t = inr (ap (λ (n : ℕ). Ok (Forward n)) t.count)
     left-taken v c (Err NoCandidate) t = let u = t.uses in let z : ◌≡◌ {A = ℕ} 0 1 = cc in absurd (omega arith)
     left-taken v c (Err WrongCode) t = let u = t.uses in let z : ◌≡◌ {A = ℕ} 0 1 = cc in absurd (omega arith)
 

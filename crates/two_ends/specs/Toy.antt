@@ -2,10 +2,9 @@
 -- `code` says which code a COUNT and data have, `find` which COUNT a receiver takes a message as. Of it are stated: where two ends fail without the premise on codes
 -- ("a worked pair of codes over a toy code function"), and that the statement rules out receivers that go further than ours. docs/TWO-ENDS.md draws the first.
 use Rattle.std.specs.Prelude.{ℕ, ◌+◌, ◌/◌, ◌%◌, ◌≡◌, Bool, true, false, cond, ◌&&◌, ◌⊎◌, List, [], ◌∷◌, eqb, ltb, leb, get_or, drop, Ok, Err}
-use Rattle.count.specs.Rule.{Opening}
+use Rattle.count.specs.Rule.{Opening, exhausted, opening}
 use Rattle.count.specs.declared.Taken.TheVariants.{Late, Forward}
 use Rattle.count.specs.declared.Missed.TheVariants.{NoCandidate, WrongCode}
-use Rattle.count.specs.Rule.{exhausted, opening}
 use Rattle.count.specs.Run.{State, uses, resize, forward, late, act}
 use Rattle.nas_core.specs.Leaves.{Values, refusal, success}
 use Rattle.promise.specs.Outcomes.{Outcome, Uses, TakenAs}

@@ -2,6 +2,8 @@
 -- window bit for d, and is set when the COUNT d below the highest used one, next - 1, is used.
 use Rattle.std.specs.Prelude.{ℕ, ◌+◌, ◌-◌, ◌*◌, ◌/◌, ◌%◌, ◌^◌, min, Bool, cond, ◌&&◌, ltb, leb, eqb, Option, None, Some, Result, Ok, Err}
 use Rattle.std.specs.Int.Bits.{bit_or}
+use Rattle.refusals.specs.declared.Refusal.{Refusal}
+use Rattle.refusals.specs.declared.Refusal.TheVariants as refusal
 use Rattle.count.specs.declared.Record.{Record}
 use Rattle.count.specs.declared.Taken.{Taken}
 use Rattle.count.specs.declared.Taken.TheVariants.{Late, Forward}
@@ -11,6 +13,11 @@ use Rattle.count.specs.declared.Missed.TheVariants.{NoCandidate, WrongCode}
 -- what an opening takes a message as: a late COUNT, a forward one, or none
 abbrev pub Opening : Type 0
 Opening = Result Taken Missed
+
+-- the refusal of a message that is taken as none: 6, 7
+abbrev pub refusal_of : Missed → Refusal
+refusal_of NoCandidate = refusal.NoCount
+refusal_of WrongCode = refusal.WrongCode
 
 -- "16,777,216 means exhausted": 2^24, the first number that is no COUNT
 abbrev pub exhausted : ℕ

@@ -2,7 +2,9 @@
 #![tactic(auto)]
 
 ghost use Rattle.std.specs.Prelude.{◌≡◌, ◌+◌, ◌-◌, ◌*◌, ◌%◌, ◌^◌, ◌≤◌, ◌<◌, min};
-ghost use Rattle.count.specs.Rule.{exhausted, bit, distance, forward_of, late_of, distance_of, former_highest, use_forward, use_round, use_late, resize_of};
+ghost use Rattle.count.specs.Rule.{exhausted, bit, distance, forward_of, late_of, distance_of, former_highest, use_forward, use_round, use_late, resize_of, refusal_of};
+
+use refusals::Refusal;
 
 // 2^24, the first number that is no COUNT: a next COUNT of this means that all are used.
 pub const EXHAUSTED: u32 = 16777216;
@@ -30,6 +32,17 @@ pub enum Missed {
     NoCandidate,
     // refusal 7: the code is wrong for every candidate
     WrongCode,
+}
+
+impl From<Missed> for Refusal {
+    ghost from_gives = { λ missed refusal. refusal ≡ refusal_of missed };
+
+    fn from(missed: Missed) -> Refusal {
+        match missed {
+            Missed::NoCandidate => Refusal::NoCount,
+            Missed::WrongCode => Refusal::WrongCode,
+        }
+    }
 }
 
 // How far above a the least number lies that ends in b's k low bits.

@@ -87,7 +87,7 @@ impl Context {
         let rec = self.records[crate::EPS_PLACE];
         let choice = envelope::read_eps(core, rec, message, out);
         match choice {
-            Err(missed) => self.unchanged(Err(OpenError::Refused(missed.refusal()))),
+            Err(missed) => self.unchanged(Err(OpenError::Refused(Refusal::from(missed)))),
             Ok(Taken::Late(c)) => Done {
                 answer: hand_eps(c, rec.distance_to(c), &message[envelope::EPS_HEADER..]),
                 context: self.used_late(crate::EPS_PLACE, c),

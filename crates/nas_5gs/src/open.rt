@@ -104,7 +104,7 @@ impl Context {
         let n = message.len() - envelope::HEADER;
         let choice = envelope::read(core, rec, t, bearer, direction, message, out);
         match choice {
-            Err(missed) => self.unchanged(Err(OpenError::Refused(missed.refusal()))),
+            Err(missed) => self.unchanged(Err(OpenError::Refused(Refusal::from(missed)))),
             Ok(Taken::Late(count)) => {
                 let input = Input {
                     count,

@@ -54,7 +54,7 @@ impl Context {
         let header_type = message[0] / 16;
         let wrote = message.len() - octets::HEADER;
         match octets::verify(core, rec, direction, message, out) {
-            Err(missed) => self.unchanged(Err(missed.refusal())),
+            Err(missed) => self.unchanged(Err(Refusal::from(missed))),
             Ok(Taken::Late(count)) => Done {
                 answer: Ok(Opened::Message(Received {
                     count,

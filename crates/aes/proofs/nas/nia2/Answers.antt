@@ -1,6 +1,6 @@
 use Rattle.std.proofs.Common.{take, ap, ◌∙◌}
 use Rattle.aes.specs.Keys.{nia2_by}
-use Rattle.aes.proofs.nas.nia2_with.Goals as goal
+use Rattle.aes.proofs.nas.nia2.Goals as goal
 
 pub returns : goal.returns
 unfolding nia2_by

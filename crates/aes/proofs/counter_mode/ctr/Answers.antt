@@ -1,6 +1,6 @@
 use Rattle.aes.specs.Cipher.{cipher}
 use Rattle.aes.proofs.Stream.{none, whole}
-use Rattle.aes.proofs.counter_mode.ctr_with.Goals as goal
+use Rattle.aes.proofs.counter_mode.ctr.Goals as goal
 
 pub returns : goal.returns
 returns c =

@@ -8,6 +8,7 @@ use native.Mathlib.Omega.{arith}
 use lib.Dec.{eqb}
 use lib.ListN.{length, get_or, take}
 use borrow.Author.Tests.{le-leb, eqb-true}
+use Rattle.std.specs.Prelude.{Some}
 use Rattle.look.specs.declared.Way.TheVariants.{Uplink}
 use Rattle.look.specs.Types.{way_of}
 use Rattle.look.specs.Look.{is_mobility, is_of, way_in, not_known, alone, not_together, wrong_way, look_of}
@@ -41,7 +42,7 @@ own m e =
     (one (is_of 0x4C m) (is_of 0x45 m) e)
 
 -- a message that the UE sends, other than SECURITY MODE COMPLETE, passes the look under header type 1, uplink
-looks-of : (t : ℕ) (m : List ℕ) → way_of t ≡ Uplink → eqb t 0x5D ≡ false → eqb t 0x5E ≡ false → is_of t m ≡ true → look_of 1 0 m ≡ 0
+looks-of : (t : ℕ) (m : List ℕ) → way_of t ≡ Some Uplink → eqb t 0x5D ≡ false → eqb t 0x5E ≡ false → is_of t m ≡ true → look_of 1 0 m ≡ 0
 unfolding is_of look_of not_known not_together alone wrong_way way_in
 looks-of t m u n k e = simp ((both (is_mobility m) (eqb (get_or m 2 0) t) e).0, of-type t m e, u, n, k)
 

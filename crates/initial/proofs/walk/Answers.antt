@@ -24,16 +24,16 @@ pub loop-at-init : goal.loop-at-init
 loop-at-init c =
     let m = c.args.message.now in (search rules, from-none (walk_from m (length m) c.args.from))
 
-pub returns-then-message-at : goal.returns-then-message-at
-returns-then-message-at c =
+pub returns-then-rest-size : goal.returns-then-rest-size
+returns-then-rest-size c =
     let l = c.loop-at in
     let m = c.args.message.now in
-    sym (ap (λ (w : Walk). more l.found w) (stop m l.at (omega arith) (omega (arith, size (goal.at.returns-then-message-at c).After-part_length-size)))) ∙ l.invariant.1
+    sym (ap (λ (w : Walk). more l.found w) (stop m l.at (omega arith) (omega (arith, size (goal.at.returns-then-rest-size c).After-part_length-size)))) ∙ l.invariant.1
 
-pub overflow_sub-end : goal.overflow_sub-end
+pub overflow_sub-value : goal.overflow_sub-value
 unfolding part_length
-overflow_sub-end c =
-    omega (arith, size (goal.at.overflow_sub-end c).After-part_length-size, value (goal.at.overflow_sub-end c).After-value_length-length)
+overflow_sub-value c =
+    omega (arith, size (goal.at.overflow_sub-value c).After-part_length-size, value (goal.at.overflow_sub-value c).After-value_length-length)
 
 pub loop-at-smaller : goal.loop-at-smaller
 loop-at-smaller c =
@@ -46,7 +46,7 @@ loop-at-preserved c =
     let n = c.value_length-length.result in
     let z = c.part_length-size.result in
     let fits : l.at + z ≤ length m = omega arith in
-    (fits, rw c.keep-found.ensures (turn l.found _ m l.at z n (omega arith) fits (size (goal.at.loop-at-preserved c).After-part_length-size) (value (goal.at.loop-at-preserved c).After-value_length-length) l.invariant.1))
+    (fits, rw (c.or-found.ensures, c.then_some.ensures, rest l.at m) (turn l.found _ m l.at z n (omega arith) fits (size (goal.at.loop-at-preserved c).After-part_length-size) (value (goal.at.loop-at-preserved c).After-value_length-length) l.invariant.1))
 
 pub returns : goal.returns
 returns c =

@@ -101,3 +101,5 @@ turn found r m at size n h fits es en e =
     keeps found (get_or (drop at m) 0 0) ((at + size) - n) n (walk_from m (length m) (at + size))
     ∙ ap (λ (z : Walk). more found z) (w ∙ sym (step m at h (omega arith)))
     ∙ e
+
+pub ruleset walk_steps = (some, done, stop, from-none, no_more, rest, turn)

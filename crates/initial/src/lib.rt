@@ -92,6 +92,7 @@ pub fn mandatory_length(message: &[u8]) -> usize
 }
 
 // The walk from an octet on goes to the last octet, also past the container. The first container counts.
+#[tactic(auto, using(crate::proofs::Walks::walk_steps), unfolding(crate::specs::Parts::part_length))]
 fn walk(message: &[u8], from: usize) -> Result<Option<Span>, Unwalkable>
     requires { from ≤ length message.now }
     ensures { result ≡ container_in (walk_from message.now (length message.now) from) }

@@ -15,7 +15,7 @@ use Rattle.std.specs.Option.{option_or}
 use Rattle.std.specs.Bool.{then_some}
 use Rattle.initial.specs.declared.Span.{Span}
 use Rattle.initial.specs.declared.Unwalkable.{Unwalkable}
-use Rattle.initial.specs.Parts.{format_of, head_of, head_length, value_length, part_length}
+use Rattle.initial.specs.Parts.{format_of, head_of, head_length, part_length}
 use Rattle.initial.specs.Walk.{Part, part, Walk, fails, parts, ◌before◌, part_of, end_at, walk_from, span, first_in, container_in}
 
 pub head-some : (f : Format) → 1 ≤ head_of f
@@ -88,18 +88,4 @@ pub rest : (at : ℕ) (m : List ℕ) → take (length m - at) (drop at m) ≡ dr
 rest at m =
     let h : length (drop at m) ≤ length m - at = simp length-drop (omega arith) in take_all (length m - at) (drop at m) h
 
--- a turn of the loop over a part of so many octets, the last n its value
-pub turn : (found : Option Span) (r : Result (Option Span) Unwalkable) (m : List ℕ) (at size n : ℕ) → at < length m → at + size ≤ length m
-    → size ≡ part_length (drop at m) → n ≡ value_length (drop at m) → more found (walk_from m (length m) at) ≡ r
-    → more (kept found (get_or (drop at m) 0 0) ((at + size) - n) n) (walk_from m (length m) (at + size)) ≡ r
-unfolding part_length
-turn found r m at size n h fits es en e =
-    let s : (at + size) - n ≡ at + head_length (drop at m) = omega arith in
-    let f : at + size ≡ end_at m at = omega arith in
-    let w : part (get_or (drop at m) 0 0) ((at + size) - n) n before walk_from m (length m) (at + size)
-    ≡ part_of at (drop at m) before walk_from m (length m) (end_at m at) = cc in
-    keeps found (get_or (drop at m) 0 0) ((at + size) - n) n (walk_from m (length m) (at + size))
-    ∙ ap (λ (z : Walk). more found z) (w ∙ sym (step m at h (omega arith)))
-    ∙ e
-
-pub ruleset walk_steps = (some, done, stop, from-none, no_more, rest, turn)
+pub ruleset walk_steps = (some, done, stop, step, from-none, no_more, rest, keeps)

@@ -3,11 +3,11 @@ use mathlib.Core.Path.{◌≡◌, refl}
 use mathlib.Core.Bool.{true, false}
 use mathlib.Core.List.{List, [], ◌∷◌, ◌++◌}
 use Prim.Native.Nat.{ℕ}
-use Rattle.initial.specs.declared.Container.TheVariants.{Fails, Absent, At}
+use Rattle.std.specs.Prelude.{Some, None, Ok, Err}
 use Rattle.look.specs.Look.{is_mobility, is_of}
 use Rattle.initial.specs.Parts.{format_of, head_length, value_length, part_length}
 use Rattle.initial.specs.Messages.{is_initial, mandatory_length, is_whole}
-use Rattle.initial.specs.Walk.{walk_from, walk_of, container_of}
+use Rattle.initial.specs.Walk.{walk_from, walk_of, span, container_of}
 use Rattle.initial.specs.Outer.{hides, front_of, outer_of}
 
 abbrev service : List ℕ
@@ -39,17 +39,17 @@ unfolding deregistration is_initial is_of is_mobility
 both-initial = (refl, refl)
 
 -- 71 inside a value does not count, the first container does, a part of one octet is passed over
-found : (container_of hidden ≡ Absent)
-    × (container_of (service ++ (0x71 ∷ 0x00 ∷ 0x15 ∷ []) ++ value) ≡ At 16 21)
-    × (container_of (service ++ (0x71 ∷ 0x00 ∷ 0x00 ∷ [])) ≡ At 16 0)
-    × (container_of (service ++ (0x29 ∷ 0x01 ∷ 0x71 ∷ 0xC1 ∷ 0x71 ∷ 0x00 ∷ 0x01 ∷ 0xAA ∷ 0x71 ∷ 0x00 ∷ 0x00 ∷ [])) ≡ At 20 1)
+found : (container_of hidden ≡ Ok None)
+    × (container_of (service ++ (0x71 ∷ 0x00 ∷ 0x15 ∷ []) ++ value) ≡ Ok (Some (span 16 21)))
+    × (container_of (service ++ (0x71 ∷ 0x00 ∷ 0x00 ∷ [])) ≡ Ok (Some (span 16 0)))
+    × (container_of (service ++ (0x29 ∷ 0x01 ∷ 0x71 ∷ 0xC1 ∷ 0x71 ∷ 0x00 ∷ 0x01 ∷ 0xAA ∷ 0x71 ∷ 0x00 ∷ 0x00 ∷ [])) ≡ Ok (Some (span 20 1)))
 unfolding container_of walk_of walk_from is_whole mandatory_length part_length head_length value_length format_of
 found = (refl, refl, refl, refl)
 
 -- a value that runs past the message, a length octet that is missing, the same behind a container, and a message too short to walk
-failing : (container_of (service ++ (0x40 ∷ 0x02 ∷ 0x20 ∷ 0x00 ∷ 0x50 ∷ 0x03 ∷ 0x20 ∷ [])) ≡ Fails)
-    × (container_of (service ++ (0x71 ∷ 0x00 ∷ [])) ≡ Fails)
-    × (container_of (service ++ (0x71 ∷ 0x00 ∷ 0x01 ∷ 0xAA ∷ 0x50 ∷ [])) ≡ Fails)
-    × (container_of (0x7E ∷ 0x00 ∷ 0x4C ∷ []) ≡ Fails)
+failing : (container_of (service ++ (0x40 ∷ 0x02 ∷ 0x20 ∷ 0x00 ∷ 0x50 ∷ 0x03 ∷ 0x20 ∷ [])) ≡ Err (record {}))
+    × (container_of (service ++ (0x71 ∷ 0x00 ∷ [])) ≡ Err (record {}))
+    × (container_of (service ++ (0x71 ∷ 0x00 ∷ 0x01 ∷ 0xAA ∷ 0x50 ∷ [])) ≡ Err (record {}))
+    × (container_of (0x7E ∷ 0x00 ∷ 0x4C ∷ []) ≡ Err (record {}))
 unfolding container_of walk_of walk_from is_whole mandatory_length part_length head_length value_length format_of
 failing = (refl, refl, refl, refl)

@@ -1,22 +1,24 @@
 -- The laws, all together.
 use mathlib.Core.Path.{◌≡◌, refl, ap, sym, ◌∙◌}
 use mathlib.Core.Bool.{Bool, true, false, cond, not}
-use mathlib.Core.Logic.{◌↔◌}
+use mathlib.Core.Logic.{◌↔◌, ⊎_elim}
+use Rattle.std.proofs.lemmas.Bool.{cases_Bool}
 use mathlib.Core.List.{List, []}
-use Prim.Native.Nat.{ℕ, ◌+◌, ◌/◌, ◌≤◌, ◌<◌}
+use Prim.Native.Nat.{ℕ, ◌+◌, ◌≤◌}
 use native.Mathlib.Omega.{arith}
 use lib.ListN.{length}
 use Rattle.look.specs.Look.{is_of}
-use Rattle.initial.specs.declared.Container.{Container}
-use Rattle.initial.specs.declared.Container.TheVariants.{Fails, Absent, At}
+use Rattle.std.specs.Prelude.{Option, Some, None, Result, Ok, Err}
+use Rattle.initial.specs.declared.Span.{Span}
+use Rattle.initial.specs.declared.Unwalkable.{Unwalkable}
 use Rattle.initial.specs.Messages.{is_initial, mandatory_length, type_of}
-use Rattle.initial.specs.Walk.{container_in, container_of}
-use Rattle.initial.specs.Outer.{is_hideable, hides, outer_of, outer_length}
+use Rattle.initial.specs.Walk.{span, container_in, container_of}
+use Rattle.initial.specs.Outer.{is_hideable, hides, outer_of}
 use Rattle.initial.specs.Inside.{is_asked, is_inside, refused, handed, value_at, of_type, hidden_in, hidden_of, no_message, ends_in18}
 use Rattle.initial.specs.Laws.{Laws}
 use Rattle.initial.proofs.Walks.{enough}
 use Rattle.initial.proofs.Within.{within, whole, absent}
-use Rattle.initial.proofs.Outer.{by, no-shorter, length-is, front, octet, walk, value}
+use Rattle.initial.proofs.Outer.{no-shorter, length-is, front, octet, walk, value}
 use Rattle.initial.proofs.Inside.{own, looks, by-type, by_three, first_three}
 
 -- what goes out has w's type
@@ -35,14 +37,14 @@ unfolding hidden_of is_asked
 asked f p i = simp i
 
 refuses : (b : Bool) (q : List ℕ) → (cond b (handed q) refused ≡ refused) ↔ (not b ≡ true)
-refuses true q = (λ e. absurd (let z : ◌≡◌ {A = ℕ} 0 1 = cc in omega arith), λ e. absurd (let z : ◌≡◌ {A = ℕ} 0 1 = cc in omega arith))
+refuses true q = (λ e. cc, λ e. cc)
 refuses false q = (λ e. refl, λ e. refl)
 
-ends_by : (f : List ℕ → List ℕ) (p : List ℕ) → is_initial p ≡ true → (c : Container) → (hidden_in f p c ≡ refused) ↔ (no_message f p c ≡ true)
-ends_by f p i Fails = (λ e. refl, λ e. refl)
-ends_by f p i Absent = (λ e. absurd (let z : ◌≡◌ {A = ℕ} 0 1 = cc in omega arith), λ e. absurd (let z : ◌≡◌ {A = ℕ} 0 1 = cc in omega arith))
-ends_by f p i (At start n) =
-    let q = f (value_at p start n) in simp (by-type p q i) (refuses (is_of (type_of p) q) q)
+ends_by : (f : List ℕ → List ℕ) (p : List ℕ) → is_initial p ≡ true → (c : Result (Option Span) Unwalkable) → (hidden_in f p c ≡ refused) ↔ (no_message f p c ≡ true)
+ends_by f p i (Err e) = (λ e. refl, λ e. refl)
+ends_by f p i (Ok None) = (λ e. cc, λ e. cc)
+ends_by f p i (Ok (Some s)) =
+    let q = f (value_at p s.start s.length) in simp (by-type p q i) (refuses (is_of (type_of p) q) q)
 
 ends : (f : List ℕ → List ℕ) (p : List ℕ) → is_initial p ≡ true → (hidden_of 1 0 f p ≡ refused) ↔ (ends_in18 f p ≡ true)
 unfolding ends_in18
@@ -52,7 +54,7 @@ none : (w v : List ℕ) → hides w ≡ false → outer_of w v ≡ w
 unfolding outer_of
 none w v t = simp t
 
-contained : (w v : List ℕ) → mandatory_length w ≤ length w → hides w ≡ true → container_of (outer_of w v) ≡ At (mandatory_length w + 3) (length v)
+contained : (w v : List ℕ) → mandatory_length w ≤ length w → hides w ≡ true → container_of (outer_of w v) ≡ Ok (Some (span (mandatory_length w + 3) (length v)))
 unfolding container_of
 contained w v h t = ap container_in (walk w v h t)
 
@@ -63,15 +65,13 @@ back f w v i a e =
     let h = whole w a in
     let o : is_initial (outer_of w v) ≡ true = initially w v h ∙ i in
     asked f (outer_of w v) o
-    ∙ by (hides w)
-    (λ t.
+    ∙ ⊎_elim
+    (λ (t : hides w ≡ true).
     let q : f (value_at (outer_of w v) (mandatory_length w + 3) (length v)) ≡ w = ap f (value w v h t) ∙ e in
     let same : is_inside (outer_of w v) w ≡ true = by-type (outer_of w v) w o ∙ ap (λ (k : ℕ). is_of k w) (octet w v h 2 (omega arith)) ∙ own w i in
     ap (hidden_in f (outer_of w v)) (contained w v h t) ∙ ap (of_type (outer_of w v)) q ∙ simp (same, t))
-    (λ t. ap (λ (m : List ℕ). hidden_in f m (container_of m)) (none w v t) ∙ ap (hidden_in f w) (absent (container_of w) a) ∙ simp t)
-
-two-octets : (w : List ℕ) → outer_length w ≤ 65535 → length w / 256 < 256
-two-octets w h = omega (arith, no-shorter w)
+    (λ (t : hides w ≡ false). ap (λ (m : List ℕ). hidden_in f m (container_of m)) (none w v t) ∙ ap (hidden_in f w) (absent (container_of w) a) ∙ simp t)
+    (cases_Bool (hides w))
 
 pub laws : Laws
 laws =
@@ -80,7 +80,7 @@ laws =
       out = λ w v. record {
         length-is = length-is w v;
         no-shorter = no-shorter w;
-        two-octets = two-octets w;
+        two-octets = λ h. omega (arith, no-shorter w);
         front = λ n h. front w v h n;
         initial = initially w v;
         walk = walk w v;

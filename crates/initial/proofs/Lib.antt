@@ -1,5 +1,4 @@
 pub mod Walks
-pub mod Front
 pub mod Within
 pub mod Outer
 pub mod Inside

@@ -1,13 +1,15 @@
 -- The message that goes out: its length, its front, its walk.
-use mathlib.Core.Path.{◌≡◌, refl, ap, sym, ◌∙◌}
-use mathlib.Core.Bool.{Bool, true, false}
+use mathlib.Core.Path.{◌≡◌, ap, sym, ◌∙◌}
+use mathlib.Core.Bool.{true, false}
 use mathlib.Core.List.{List, [], ◌∷◌, ◌++◌, append_assoc}
 use Prim.Native.Nat.{ℕ, ◌+◌, ◌/◌, ◌%◌, ◌≤◌, ◌<◌}
-use native.Mathlib.Nat.{div-add-mod'}
 use native.Mathlib.Omega.{arith}
 use lib.ListN.{length, get_or, take, drop, length-append}
 use lib.Seq.{take-append-le, take-take, take-length, get_or-take, drop_at, length-take-le}
 use borrow.Author.Tests.{le-leb}
+use Rattle.std.proofs.lemmas.Bool.{cases_Bool}
+use Rattle.std.proofs.lemmas.Bool.Decides.{nat_tests}
+use mathlib.Core.Logic.{⊎_elim}
 use Rattle.initial.specs.Messages.{mandatory_length, is_whole}
 use Rattle.initial.specs.Parts.{format_of, head_length, value_length, part_length}
 use Rattle.initial.specs.Walk.{Walk, part, parts, ◌before◌, part_of, end_at, walk_from, walk_of}
@@ -18,24 +20,15 @@ use Rattle.initial.proofs.Walks.{step, done}
 -- the part that a container is: its length reads back
 container-value : (v : List ℕ) → value_length (0x71 ∷ length v / 256 ∷ length v % 256 ∷ v) ≡ length v
 unfolding value_length format_of
-container-value v = div-add-mod' (length v) 256
+container-value v = omega arith
 
 container-length : (v : List ℕ) → part_length (0x71 ∷ length v / 256 ∷ length v % 256 ∷ v) ≡ 3 + length v
 unfolding part_length head_length format_of
-container-length v = ap (λ (k : ℕ). 3 + k) (container-value v)
-
--- either way of going out
-pub by : {P : Type 0} (b : Bool) → (b ≡ true → P) → (b ≡ false → P) → P
-by true f g = f refl
-by false f g = g refl
-
-pub outer-length-by : (w : List ℕ) → (hides w ≡ true → outer_length w ≡ mandatory_length w + 3 + length w) × (hides w ≡ false → outer_length w ≡ length w)
-unfolding outer_length
-outer-length-by w = (λ e. simp e, λ e. simp e)
+container-length v = omega (arith, container-value v)
 
 pub no-shorter : (w : List ℕ) → length w ≤ outer_length w
-no-shorter w =
-    by (hides w) (λ e. omega (arith, (outer-length-by w).0 e)) (λ e. omega (arith, (outer-length-by w).1 e))
+unfolding outer_length
+no-shorter w = grind (arith, nat_tests)
 
 module _ (w v : List ℕ) (whole : mandatory_length w ≤ length w) where
   front_length : length (front_of w (length v)) ≡ mandatory_length w + 3
@@ -46,10 +39,7 @@ module _ (w v : List ℕ) (whole : mandatory_length w ≤ length w) where
 
   pub length-is : length v ≡ length w → length (outer_of w v) ≡ outer_length w
   unfolding outer_of outer_length
-  length-is e =
-      by (hides w)
-      (λ t. simp t (length-append (front_of w (length v)) v ∙ omega (arith, front_length)))
-      (λ t. simp t)
+  length-is e = grind (arith, front_length, length-append (front_of w (length v)) v)
 
   made : hides w ≡ true → outer_of w v ≡ front_of w (length v) ++ v
   unfolding outer_of
@@ -59,13 +49,14 @@ module _ (w v : List ℕ) (whole : mandatory_length w ≤ length w) where
   unfolding outer_of front_of
   front n h =
       let k : length (take (mandatory_length w) w) ≡ mandatory_length w = length-take-le (mandatory_length w) w whole in
-      by (hides w)
-      (λ t.
+      ⊎_elim
+      (λ (t : hides w ≡ true).
       simp t
       (take-append-le n (front_of w (length v)) v (omega (arith, front_length))
       ∙ take-append-le n (take (mandatory_length w) w) (0x71 ∷ length v / 256 ∷ length v % 256 ∷ []) (omega arith)
       ∙ take-take n (mandatory_length w) w h))
-      (λ t. simp t)
+      (λ (t : hides w ≡ false). simp t)
+      (cases_Bool (hides w))
 
   -- an octet of the mandatory part
   pub octet : (i : ℕ) → i < mandatory_length w → get_or (outer_of w v) i 0 ≡ get_or w i 0

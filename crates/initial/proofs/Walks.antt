@@ -3,18 +3,20 @@ use mathlib.Core.Path.{◌≡◌, refl, ap, sym, ◌∙◌}
 use mathlib.Core.Bool.{Bool, true, false, cond}
 use mathlib.Core.List.{List, []}
 use Prim.Native.Nat.{ℕ, zero, suc, ◌+◌, ◌-◌, ◌≤◌, ◌<◌}
-use native.Mathlib.Nat.{add-zero}
 use native.Mathlib.Omega.{arith}
 use lib.Dec.{leb, eqb}
 use lib.ListN.{length, get_or, take, drop, length-drop}
-use lib.Seq.{get_or-drop, take_all}
+use lib.Seq.{take_all}
 use borrow.Author.Tests.{le-leb, lt-leb}
 use Rattle.initial.specs.declared.Format.{Format}
 use Rattle.initial.specs.declared.Format.TheVariants.{Single, Tlv, Tlve}
-use Rattle.initial.specs.declared.Container.{Container}
-use Rattle.initial.specs.declared.Container.TheVariants.{Fails, Absent, At}
-use Rattle.initial.specs.Parts.{format_of, head_of, head_length, value_length, part_length}
-use Rattle.initial.specs.Walk.{Part, part, Walk, fails, parts, ◌before◌, part_of, end_at, walk_from, first_in, container_in, or_else, kept}
+use Rattle.std.specs.Prelude.{Option, Some, None, Result, Ok, Err}
+use Rattle.std.specs.Option.{option_or}
+use Rattle.std.specs.Bool.{then_some}
+use Rattle.initial.specs.declared.Span.{Span}
+use Rattle.initial.specs.declared.Unwalkable.{Unwalkable}
+use Rattle.initial.specs.Parts.{format_of, head_of, head_length, part_length}
+use Rattle.initial.specs.Walk.{Part, part, Walk, fails, parts, ◌before◌, part_of, end_at, walk_from, span, first_in, container_in}
 
 pub head-some : (f : Format) → 1 ≤ head_of f
 head-some Single = omega arith
@@ -55,48 +57,35 @@ module _ (m : List ℕ) where
   stop at h g = enough (length m) (suc (length m)) at (omega arith) (omega arith) ∙ simp (lt-leb _ _ h, lt-leb _ _ g)
 
 -- what is found so far, and behind it
-abbrev pub more : Container → Walk → Container
-more found fails = Fails
-more found (parts ps) = or_else found (first_in ps)
+abbrev pub more : Option Span → Walk → Result (Option Span) Unwalkable
+more found fails = Err (record {})
+more found (parts ps) = Ok (option_or found (first_in ps))
 
-pub from-none : (w : Walk) → more Absent w ≡ container_in w
+pub from-none : (w : Walk) → more None w ≡ container_in w
 from-none fails = refl
 from-none (parts ps) = refl
 
-pub no_more : (found : Container) → more found (parts []) ≡ found
-no_more Fails = refl
-no_more Absent = refl
-no_more (At s n) = refl
+pub no_more : (found : Option Span) → more found (parts []) ≡ Ok found
+no_more None = refl
+no_more (Some s) = refl
 
-one_more : (b : Bool) (found : Container) (s n : ℕ) (ps : List Part)
-    → more (cond b (or_else found (At s n)) found) (parts ps) ≡ or_else found (cond b (At s n) (first_in ps))
-one_more true Fails s n ps = refl
-one_more true Absent s n ps = refl
-one_more true (At t k) s n ps = refl
-one_more false Fails s n ps = refl
-one_more false Absent s n ps = refl
-one_more false (At t k) s n ps = refl
+-- what is found so far, and a part more
+abbrev pub kept : Option Span → ℕ → ℕ → ℕ → Option Span
+kept found i start n = option_or found (then_some (eqb i 0x71) (span start n))
 
-pub keeps : (found : Container) (i s n : ℕ) (w : Walk) → more (kept found i s n) w ≡ more found (part i s n before w)
+one_more : (b : Bool) (found : Option Span) (s : Span) (ps : List Part)
+    → more (option_or found (then_some b s)) (parts ps) ≡ Ok (option_or found (cond b (Some s) (first_in ps)))
+one_more b (Some t) s ps = refl
+one_more true None s ps = refl
+one_more false None s ps = refl
+
+pub keeps : (found : Option Span) (i s n : ℕ) (w : Walk) → more (kept found i s n) w ≡ more found (part i s n before w)
 keeps found i s n fails = refl
-keeps found i s n (parts ps) = one_more (eqb i 0x71) found s n ps
+keeps found i s n (parts ps) = one_more (eqb i 0x71) found (span s n) ps
 
 -- what `&m[at..]` shows is the rest from there on
 pub rest : (at : ℕ) (m : List ℕ) → take (length m - at) (drop at m) ≡ drop at m
 rest at m =
     let h : length (drop at m) ≤ length m - at = simp length-drop (omega arith) in take_all (length m - at) (drop at m) h
 
--- a turn of the loop over a part of so many octets, the last n its value
-pub turn : (found r : Container) (m : List ℕ) (at size n : ℕ) → at < length m → at + size ≤ length m
-    → size ≡ part_length (drop at m) → n ≡ value_length (drop at m) → more found (walk_from m (length m) at) ≡ r
-    → more (kept found (get_or m at 0) ((at + size) - n) n) (walk_from m (length m) (at + size)) ≡ r
-unfolding part_length
-turn found r m at size n h fits es en e =
-    let i : get_or m at 0 ≡ get_or (drop at m) 0 0 = simp (get_or-drop, add-zero) in
-    let s : (at + size) - n ≡ at + head_length (drop at m) = omega arith in
-    let f : at + size ≡ end_at m at = omega arith in
-    let w : part (get_or m at 0) ((at + size) - n) n before walk_from m (length m) (at + size)
-    ≡ part_of at (drop at m) before walk_from m (length m) (end_at m at) = cc in
-    keeps found (get_or m at 0) ((at + size) - n) n (walk_from m (length m) (at + size))
-    ∙ ap (λ (z : Walk). more found z) (w ∙ sym (step m at h (omega arith)))
-    ∙ e
+pub ruleset walk_steps = (some, done, stop, step, from-none, no_more, rest, keeps)

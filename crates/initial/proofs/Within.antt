@@ -7,28 +7,28 @@ use native.Mathlib.Omega.{arith}
 use lib.Dec.{leb, eqb}
 use lib.ListN.{length, get_or, drop}
 use borrow.Author.Tests.{leb-true}
-use Rattle.initial.specs.declared.Container.{Container}
-use Rattle.initial.specs.declared.Container.TheVariants.{Fails, Absent, At}
+use Rattle.std.specs.Prelude.{Option, Some, None, Result, Ok, Err}
+use Rattle.initial.specs.declared.Span.{Span}
+use Rattle.initial.specs.declared.Unwalkable.{Unwalkable}
 use Rattle.initial.specs.Messages.{mandatory_length, is_whole}
 use Rattle.initial.specs.Parts.{format_of, head_length, value_length, part_length}
-use Rattle.initial.specs.Walk.{Walk, fails, parts, ◌before◌, part_of, end_at, walk_from, walk_of, first_in, container_in, container_of}
+use Rattle.initial.specs.Walk.{Walk, fails, parts, ◌before◌, part_of, end_at, walk_from, walk_of, span, first_in, container_in, container_of}
 use Rattle.initial.specs.Outer.{is_absent, is_hideable}
 use Rattle.initial.proofs.Walks.{head-some}
 
 -- behind octet `at`, in the message
-abbrev Lies : List ℕ → ℕ → Container → Type 0
-Lies m at Fails = Unit {0}
-Lies m at Absent = Unit {0}
-Lies m at (At start n) = (at < start) × (start + n ≤ length m)
+abbrev Lies : List ℕ → ℕ → Result (Option Span) Unwalkable → Type 0
+Lies m at (Err e) = Unit {0}
+Lies m at (Ok None) = Unit {0}
+Lies m at (Ok (Some s)) = (at < s.start) × (s.start + s.length ≤ length m)
 
-weaker : (m : List ℕ) (at to : ℕ) (c : Container) → at ≤ to → Lies m to c → Lies m at c
-weaker m at to Fails h l = tt
-weaker m at to Absent h l = tt
-weaker m at to (At start n) h l = (omega arith, l.1)
+weaker : (m : List ℕ) (at to : ℕ) (c : Option Span) → at ≤ to → Lies m to (Ok c) → Lies m at (Ok c)
+weaker m at to None h l = tt
+weaker m at to (Some s) h l = (omega arith, l.1)
 
 module _ (m : List ℕ) (at : ℕ) where
-  one : (b : Bool) (c : Container) → end_at m at ≤ length m → Lies m (end_at m at) c
-      → Lies m at (cond b (At (at + head_length (drop at m)) (value_length (drop at m))) c)
+  one : (b : Bool) (c : Option Span) → end_at m at ≤ length m → Lies m (end_at m at) (Ok c)
+      → Lies m at (Ok (cond b (Some (span (at + head_length (drop at m)) (value_length (drop at m)))) c))
   unfolding head_length part_length
   one true c h l = (omega (arith, head-some (format_of (get_or (drop at m) 0 0))), omega arith)
   one false c h l = weaker m at (end_at m at) c (omega arith) l
@@ -53,10 +53,10 @@ found : (m : List ℕ) (b : Bool) (w : Walk) → Lies m (mandatory_length m) (co
 found m true w l = l
 found m false w l = tt
 
-pub within : (m : List ℕ) (start n : ℕ) → container_of m ≡ At start n → (mandatory_length m < start) × (start + n ≤ length m)
+pub within : (m : List ℕ) (start n : ℕ) → container_of m ≡ Ok (Some (span start n)) → (mandatory_length m < start) × (start + n ≤ length m)
 unfolding container_of walk_of
 within m start n e =
-    subst (λ (c : Container). Lies m (mandatory_length m) c) e
+    subst (λ (c : Result (Option Span) Unwalkable). Lies m (mandatory_length m) c) e
     (found m (is_whole m) (walk_from m (length m) (mandatory_length m)) (lies m (length m) (mandatory_length m)))
 
 reached : (b : Bool) (w : Walk) → is_absent (container_in (cond b w fails)) ≡ true → b ≡ true
@@ -67,7 +67,7 @@ pub whole : (m : List ℕ) → is_hideable m ≡ true → mandatory_length m ≤
 unfolding is_hideable container_of walk_of is_whole
 whole m e = leb-true _ _ (reached (is_whole m) (walk_from m (length m) (mandatory_length m)) e)
 
-pub absent : (c : Container) → is_absent c ≡ true → c ≡ Absent
-absent Absent e = refl
-absent Fails e = absurd (let z : ◌≡◌ {A = ℕ} 0 1 = cc in omega arith)
-absent (At start n) e = absurd (let z : ◌≡◌ {A = ℕ} 0 1 = cc in omega arith)
+pub absent : (c : Result (Option Span) Unwalkable) → is_absent c ≡ true → c ≡ Ok None
+absent (Ok None) e = refl
+absent (Err x) e = cc
+absent (Ok (Some s)) e = cc

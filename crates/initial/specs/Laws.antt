@@ -1,10 +1,9 @@
 -- What holds of walk, container and cleartext message, whatever ciphers: stated here, proved in proofs/Laws.antt.
 -- w is the message to be sealed, v the container's value, f what deciphers, p a received message.
-use Rattle.std.specs.Prelude.{ℕ, ◌+◌, ◌/◌, ◌≤◌, ◌<◌, ◌≡◌, true, cond, ◌↔◌, List, [], ◌∷◌, length, take}
+use Rattle.std.specs.Prelude.{ℕ, ◌+◌, ◌/◌, ◌≤◌, ◌<◌, ◌≡◌, true, cond, ◌↔◌, List, [], ◌∷◌, length, take, Some, Ok}
 use Rattle.look.specs.Look.{is_of, look_of}
-use Rattle.initial.specs.declared.Container.TheVariants.{At}
 use Rattle.initial.specs.Messages.{is_initial, mandatory_length, type_of}
-use Rattle.initial.specs.Walk.{part, parts, walk_from, walk_of, container_of}
+use Rattle.initial.specs.Walk.{part, parts, walk_from, walk_of, span, container_of}
 use Rattle.initial.specs.Outer.{is_hideable, hides, outer_of, outer_length}
 use Rattle.initial.specs.Inside.{is_inside, refused, handed, value_at, hidden_of, ends_in18}
 
@@ -13,7 +12,7 @@ pub record Walks (m : List ℕ) : Type 0 where
   -- any number of steps that is enough gives the same
   pub steps : (j k at : ℕ) → length m ≤ j + at → length m ≤ k + at → walk_from m j at ≡ walk_from m k at
   -- a container's value lies in its message, behind the mandatory part
-  pub within : (start n : ℕ) → container_of m ≡ At start n → (mandatory_length m < start) × (start + n ≤ length m)
+  pub within : (start n : ℕ) → container_of m ≡ Ok (Some (span start n)) → (mandatory_length m < start) × (start + n ≤ length m)
   -- where the walk succeeds, the mandatory part is all there
   pub whole : is_hideable m ≡ true → mandatory_length m ≤ length m
 

@@ -1,15 +1,15 @@
 -- What goes out for an initial message w (TS 24.501 4.4.6): of both messages the mandatory part alone is cleartext.
-use Rattle.std.specs.Prelude.{ℕ, ◌+◌, ◌/◌, ◌%◌, Bool, true, false, cond, List, [], ◌∷◌, ◌++◌, ltb, length, take}
-use Rattle.initial.specs.declared.Container.{Container}
-use Rattle.initial.specs.declared.Container.TheVariants.{Fails, Absent, At}
+use Rattle.std.specs.Prelude.{ℕ, ◌+◌, ◌/◌, ◌%◌, Bool, true, false, cond, List, [], ◌∷◌, ◌++◌, ltb, length, take, Option, Some, None, Result, Ok, Err}
+use Rattle.initial.specs.declared.Span.{Span}
+use Rattle.initial.specs.declared.Unwalkable.{Unwalkable}
 use Rattle.initial.specs.Messages.{mandatory_length}
 use Rattle.initial.specs.Walk.{container_of}
 
 -- 18 on sealing is that it is not so: the walk fails, or there is a container already
-abbrev pub is_absent : Container → Bool
-is_absent Fails = false
-is_absent Absent = true
-is_absent (At start n) = false
+abbrev pub is_absent : Result (Option Span) Unwalkable → Bool
+is_absent (Err e) = false
+is_absent (Ok None) = true
+is_absent (Ok (Some s)) = false
 
 unfoldable pub is_hideable : List ℕ → Bool
 is_hideable w = is_absent (container_of w)

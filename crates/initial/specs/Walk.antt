@@ -1,7 +1,7 @@
 -- The walk over the optional parts to the last octet (TS 24.007 11.2.4), and the NAS message container among them (TS 24.501 9.11.3.33; 7.6.3: the first counts).
-use Rattle.std.specs.Prelude.{ℕ, zero, suc, ◌+◌, cond, List, [], ◌∷◌, leb, eqb, length, get_or, drop}
-use Rattle.initial.specs.declared.Container.{Container}
-use Rattle.initial.specs.declared.Container.TheVariants.{Fails, Absent, At}
+use Rattle.std.specs.Prelude.{ℕ, zero, suc, ◌+◌, cond, List, [], ◌∷◌, leb, eqb, length, get_or, drop, Option, Some, None, Result, Ok, Err}
+use Rattle.initial.specs.declared.Span.{Span}
+use Rattle.initial.specs.declared.Unwalkable.{Unwalkable}
 use Rattle.initial.specs.Parts.{head_length, value_length, part_length}
 use Rattle.initial.specs.Messages.{mandatory_length, is_whole}
 
@@ -37,23 +37,18 @@ walk_from m (suc steps) at =
 unfoldable pub walk_of : List ℕ → Walk
 walk_of m = cond (is_whole m) (walk_from m (length m) (mandatory_length m)) fails
 
+-- a value: at which octet it starts, and how many it has
+abbrev pub span : ℕ → ℕ → Span
+span start n = record { start = start; length = n }
+
 -- the container's identifier is 71
-abbrev pub first_in : List Part → Container
-first_in [] = Absent
-first_in (part i start n ∷ ps) = cond (eqb i 0x71) (At start n) (first_in ps)
+abbrev pub first_in : List Part → Option Span
+first_in [] = None
+first_in (part i start n ∷ ps) = cond (eqb i 0x71) (Some (span start n)) (first_in ps)
 
-abbrev pub container_in : Walk → Container
-container_in fails = Fails
-container_in (parts ps) = first_in ps
+abbrev pub container_in : Walk → Result (Option Span) Unwalkable
+container_in fails = Err (record {})
+container_in (parts ps) = Ok (first_in ps)
 
-unfoldable pub container_of : List ℕ → Container
+unfoldable pub container_of : List ℕ → Result (Option Span) Unwalkable
 container_of m = container_in (walk_of m)
-
--- what is found so far, and a part more
-abbrev pub or_else : Container → Container → Container
-or_else Fails c = Fails
-or_else Absent c = c
-or_else (At start n) c = At start n
-
-abbrev pub kept : Container → ℕ → ℕ → ℕ → Container
-kept found i start n = cond (eqb i 0x71) (or_else found (At start n)) found

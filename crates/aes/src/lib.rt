@@ -21,3 +21,11 @@ pub struct Key {
     subkey1: [u8; 16],
     subkey2: [u8; 16],
 }
+
+// What an algorithm is given beside key and octets (TS 33.501 Annex D).
+#[derive(Clone, Copy, Debug, PartialEq, Eq)]
+pub struct Input {
+    pub count: u32,
+    pub bearer: u8,
+    pub direction: u8,
+}

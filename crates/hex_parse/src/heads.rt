@@ -1,8 +1,8 @@
 // The forms, and what each line is up to its octets: X is any digit, S a slot, D a direction, C a connection.
 ghost use Rattle.std.specs.Prelude.{◌≡◌, ◌+◌, ◌≤◌, Some};
-ghost use Rattle.hex_parse.specs.Parsed.{headed_two, selected_at};
+ghost use Rattle.hex_parse.specs.Parsed.{headed_two};
 ghost use Rattle.hex_parse.specs.Form.{number_at};
-ghost use Rattle.hex_parse.specs.Lines.{bad, restore_line, raw_line, change_line, open_line, eps_line, container_line, state_line, in_place_line, beyond_of, rest_of, head_of};
+ghost use Rattle.hex_parse.specs.Lines.{bad, restore_line, raw_line, open_line, eps_line, container_line, state_line, in_place_line, beyond_of, rest_of, head_of};
 
 use crate::{Call, Line, form};
 

@@ -87,14 +87,16 @@ impl Context {
     {
         let core = self.core;
         let rec = self.records[crate::EPS_PLACE];
-        let choice = envelope::read_eps(core, rec, message, out);
-        match choice {
-            Err(missed) => self.unchanged(Err(OpenError::Refused(Refusal::from(missed)))),
-            Ok(Taken::Late(c)) => Done {
+        let taken = match envelope::read_eps(core, rec, message, out) {
+            Ok(taken) => taken,
+            Err(missed) => return self.unchanged(Err(OpenError::Refused(Refusal::from(missed)))),
+        };
+        match taken {
+            Taken::Late(c) => Done {
                 answer: hand_eps(c, rec.distance_to(c), &message[envelope::EPS_HEADER..]),
                 context: self.used_late(crate::EPS_PLACE, c),
             },
-            Ok(Taken::Forward(c)) => Done {
+            Taken::Forward(c) => Done {
                 answer: hand_eps(c, rec.distance_to(c), &message[envelope::EPS_HEADER..]),
                 context: self.used(crate::EPS_PLACE, c),
             },

@@ -53,9 +53,12 @@ impl Context {
         let rec = self.records[p];
         let header_type = message[0] / 16;
         let wrote = message.len() - octets::HEADER;
-        match octets::verify(core, rec, direction, message, out) {
-            Err(missed) => self.unchanged(Err(Refusal::from(missed))),
-            Ok(Taken::Late(count)) => Done {
+        let taken = match octets::verify(core, rec, direction, message, out) {
+            Ok(taken) => taken,
+            Err(missed) => return self.unchanged(Err(Refusal::from(missed))),
+        };
+        match taken {
+            Taken::Late(count) => Done {
                 answer: Ok(Opened::Message(Received {
                     count,
                     distance: rec.distance_to(count),
@@ -64,7 +67,7 @@ impl Context {
                 })),
                 context: self.used_late(p, count),
             },
-            Ok(Taken::Forward(count)) => Done {
+            Taken::Forward(count) => Done {
                 answer: Ok(Opened::Message(Received {
                     count,
                     distance: rec.distance_to(count),

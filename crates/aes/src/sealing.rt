@@ -61,6 +61,7 @@ pub fn cipher_and_chain(w: &Schedule, v: &Schedule, t: [u8; 16], f: u8, p: &mut 
         [p[3], p[4], p[5], p[6]],
     ];
     let mut i = 32;
+    // kept: a turn goes to the end of its run, as in `ctr_to`.
     while i < end {
         let b = counter_block(t, i / 16);
         let g = shared(w, b);

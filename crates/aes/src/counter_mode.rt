@@ -1,6 +1,6 @@
 // SP 800-38A 6.5: counter mode, two blocks at a time.
-ghost use Rattle.std.specs.Prelude.{◌≡◌, ℕ, ◌+◌, ◌-◌, ◌*◌, ◌%◌, ◌<◌, ◌≤◌, List, [], ◌∷◌, ◌++◌, length, take, drop, slice_index, slice_index_or, slice_range};
-ghost use Rattle.aes.specs.Octets.{four, xor, octets, number};
+ghost use Rattle.std.specs.Prelude.{◌≡◌, ℕ, ◌+◌, ◌-◌, ◌*◌, ◌%◌, ◌<◌, ◌≤◌, List, [], ◌++◌, length, take, drop, slice_index, slice_index_or, slice_range};
+ghost use Rattle.aes.specs.Octets.{four, xor, octets};
 ghost use Rattle.aes.specs.Cipher.{from_state, cipher};
 ghost use Rattle.aes_block.specs.Mix.{Shared};
 ghost use Rattle.aes.specs.Counter.{counter, ctr_of};

@@ -1,6 +1,6 @@
 // A long message ciphered and its code made side by side: block j of the payload beside block j - 2 of the chain, whose octets were
 // ciphered two blocks before and lie in the message by then.
-ghost use Rattle.std.specs.Prelude.{◌≡◌, ℕ, ◌+◌, ◌-◌, ◌*◌, ◌/◌, ◌%◌, ◌<◌, ◌≤◌, List, [], ◌∷◌, ◌++◌, length, take, drop, slice_index};
+ghost use Rattle.std.specs.Prelude.{◌≡◌, ℕ, ◌+◌, ◌-◌, ◌*◌, ◌/◌, ◌%◌, ◌≤◌, List, ◌∷◌, ◌++◌, length, take, drop, slice_index};
 ghost use Rattle.aes.specs.Octets.{xor};
 ghost use Rattle.aes.specs.Cipher.{from_state, cipher};
 ghost use Rattle.aes_block.specs.Mix.{Shared};

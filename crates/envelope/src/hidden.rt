@@ -8,7 +8,7 @@ ghost use Rattle.nas_core.specs.Leaves.{over};
 ghost use Rattle.envelope.specs.Initial.{beside_of, beside, told};
 
 use crate::Inside;
-use initial::Container;
+use initial::{Span, Unwalkable};
 use nas_core::Core;
 
 const UPLINK: u8 = 0;
@@ -51,13 +51,12 @@ fn read_inside(core: Core, count: u32, bearer: u8, plain: &[u8], second: &mut [u
     ensures answer { result ≡ told (hidden_in (λ v. payload core true count bearer 0 v) plain.now (container_of plain.now)) }
     ensures wrote { second.new ≡ over (beside (hidden_in (λ v. payload core true count bearer 0 v) plain.now (container_of plain.now))) second.old }
 {
-    let found = initial::find_container(plain);
-    match found {
-        Container::Fails => Inside::Refused,
-        Container::Absent => Inside::Handed(0),
-        Container::At(start, n) => {
-            let end = start + n;
-            take_inside(core, count, bearer, plain, &plain[start..end], second)
+    match initial::find_container(plain) {
+        Err(Unwalkable) => Inside::Refused,
+        Ok(None) => Inside::Handed(0),
+        Ok(Some(Span { start, length })) => {
+            let value = &plain[start..start + length];
+            take_inside(core, count, bearer, plain, value, second)
         }
     }
 }

@@ -1,10 +1,12 @@
 -- Laws for CMAC: the octets of a head and a message that are not copied together, the blocks of a message, the last one, and the chain.
 -- Assumes nothing.
-use Rattle.std.proofs.Common.{◌≡◌, ℕ, zero, suc, ◌+◌, ◌-◌, ◌*◌, ◌/◌, ◌<◌, ◌≤◌, Bool, true, false, cond, eqb, ltb, List, [], ◌∷◌, ◌++◌, length, get_or, take, drop, set, replicate, sym, refl, ap, ◌∙◌, append_assoc, add-one, arith, length-append, length-drop, length-set, length-take, length-take-le, get_or-drop, take_all, get_or-take, take-suc, get_or-append-add, ext_get_or, le-ltb, lt-ltb, eq-eqb, ne_eqb}
+use Rattle.std.proofs.Common.{◌≡◌, ℕ, zero, suc, ◌+◌, ◌-◌, ◌*◌, ◌/◌, ◌<◌, ◌≤◌, Bool, true, false, cond, eqb, ltb, List, [], ◌∷◌, ◌++◌, length, get_or, take, drop, set, replicate, sym, refl, ap, ◌∙◌, ap₂, append_assoc, add-one, arith, length-append, length-drop, length-set, length-take, length-take-le, get_or-drop, take_all, get_or-take, get_or-append-add, ext_get_or, le-ltb, lt-ltb, eq-eqb, ne_eqb}
 use mathlib.Core.List.{zip_with}
 use native.Mathlib.Decide.{ℕ_discrete, dec_lt}
 use lib.ListN.{length-replicate, get_or-append, get_or-eq_default}
 use lib.Seq.{get_or_at, drop-append-le, append_snoc, set_at}
+use Rattle.std.proofs.lemmas.List.{drop-replicate}
+use borrow.Rule.Slice.PartMut.{put_mid}
 use Rattle.aes.specs.Octets.{sixteen, xor}
 use Rattle.aes.specs.Cipher.{to_state, from_state, cipher}
 use Rattle.aes.specs.Cmac.{block, last_block, chain, cmac_at, cmac_by}
@@ -111,6 +113,10 @@ filled l j = take j l ++ replicate (16 - j) 0
 filled-length : (l : List ℕ) (j : ℕ) → j ≤ length l → j ≤ 16 → length (filled l j) ≡ 16
 filled-length l j p q = simp (length-append, length-take, length-replicate) (omega arith)
 
+-- octets that were copied over the first of sixteen zeros
+pub copied : (l ys : List ℕ) (j : ℕ) → ys ≡ take j l → put_mid 0 j (replicate 16 0) ys ≡ filled l j
+copied l ys j e = ap₂ (λ (a b : List ℕ). a ++ b) e (drop-replicate j 16 0)
+
 -- octet j stored behind them
 store : (l b : List ℕ) (j x : ℕ) → j ≤ length l → j < 16 → b ≡ filled l j → set b j x ≡ take j l ++ (x ∷ []) ++ replicate (16 - (j + 1)) 0
 store l b j x p q e =
@@ -121,14 +127,6 @@ store l b j x p q e =
     sym (append_snoc (take j l) x z)
 
 module _ (m b : List ℕ) (i j : ℕ) (e : b ≡ filled (drop i m) j) where
-  pub fill : j < length m - i → j < 16 → set b j (get_or m (i + j) 0) ≡ filled (drop i m) (j + 1)
-  fill p q =
-      let l = drop i m in
-      let h : j < length l = simp length-drop (omega arith) in
-      let s : take j l ++ (get_or m (i + j) 0 ∷ []) ≡ take (j + 1) l =
-      ap (λ (x : ℕ). take j l ++ (x ∷ [])) (sym (get_or-drop i m j 0)) ∙ sym (take-suc l j 0 h) ∙ ap (λ (k : ℕ). take k l) (sym (add-one j)) in
-      store l b j (get_or m (i + j) 0) (omega arith) q e ∙ ap (λ (r : List ℕ). r ++ replicate (16 - (j + 1)) 0) s
-
   -- the padding's bit behind all that there are
   pub padded-end : i ≤ length m → j ≡ length m - i → j < 16 → set b j 128 ≡ window m i
   padded-end inside r q =

@@ -1,10 +1,18 @@
 -- What lies behind the first a octets lent as `&mut m[a..]`, and what is made of it back in its place.
-use Rattle.std.proofs.Common.{◌≡◌, ℕ, suc, ◌-◌, ◌≤◌, List, [], ◌∷◌, ◌++◌, length, get_or, take, drop, sym, refl, ap, ◌∙◌, append-nil, arith, length-append, length-drop, drop_of_length-le, length-take, take_all}
-use borrow.Rule.Slice.PartMut.{put_mid}
+use Rattle.std.proofs.Common.{◌≡◌, ℕ, suc, ◌+◌, ◌-◌, ◌≤◌, List, [], ◌∷◌, ◌++◌, length, get_or, take, drop, sym, refl, ap, ◌∙◌, append-nil, arith, length-append, length-drop, drop_of_length-le, length-take, take_all}
+use borrow.Rule.Slice.PartMut.{put_mid, same_len_mid}
+use Rattle.std.proofs.lemmas.Slice.{take-put_mid}
 
 nothing : (l : List ℕ) → length l ≡ 0 → l ≡ []
 nothing [] e = refl
 nothing (x ∷ l) e = absurd (omega arith)
+
+-- the last k of a list, written over
+pub put_end : (a k : ℕ) (xs ys : List ℕ) → length xs ≡ a + k → length ys ≡ k → put_mid a k xs ys ≡ take a xs ++ ys
+put_end a k xs ys h e =
+    let n : length ys ≡ length (take k (drop a xs)) = simp (length-take, length-drop) (omega arith) in
+    let o : length (put_mid a k xs ys) ≤ a + k = omega (arith, same_len_mid a k xs ys n, h) in
+    sym (take_all (a + k) (put_mid a k xs ys) o) ∙ take-put_mid a k xs ys (a + k) (omega arith) (omega arith)
 
 pub behind : (a : ℕ) (m zs : List ℕ) (f : List ℕ → List ℕ) → zs ≡ f (take (length m - a) (drop a m)) → put_mid a (length m - a) m zs ≡ take a m ++ f (drop a m)
 behind a m zs f e =

@@ -1,13 +1,11 @@
 // SP 800-38B: CMAC.
 ghost use Rattle.std.specs.Prelude.{◌≡◌, ◌+◌, ◌-◌, ◌*◌, ◌/◌, ◌%◌, ◌^◌, ◌<◌, ◌≤◌, [], ◌∷◌, ◌++◌, length, if◌then◌else◌, slice_index};
 ghost use Rattle.aes.specs.Octets.{sixteen, xor};
-ghost use Rattle.aes_block.specs.Mix.{mix_table};
 ghost use Rattle.aes.specs.Cipher.{to_state, from_state, cipher};
 ghost use Rattle.aes.specs.Cmac.{shift_left, double as double_of, subkey1, chain, cmac_by, cmac_of};
 ghost use Rattle.aes.specs.Parts.{chain_block, of_halves};
 
-use crate::counter_mode::low64;
-use aes_block::{encrypt_state, mix_table, to_state, xor_states};
+use aes_block::{Schedule, State, encrypt_state, to_state, xor_states};
 
 const R128: [u8; 16] = [0, 0, 0, 0, 0, 0, 0, 0, 0, 0, 0, 0, 0, 0, 0, 135];
 
@@ -114,7 +112,7 @@ fn gathered_block(head: &[u8], message: &[u8], k: usize) -> [u8; 16]
 }
 
 // 16 octets of a message from i on.
-pub fn state_at(m: &[u8], i: usize) -> [[u8; 4]; 4]
+pub fn state_at(m: &[u8], i: usize) -> State
     requires { i + 15 < length m.now }
     ensures { result ≡ to_state (sixteen (λ j. slice_index m.now (i + j))) }
 {
@@ -127,7 +125,7 @@ pub fn state_at(m: &[u8], i: usize) -> [[u8; 4]; 4]
 }
 
 // A block that the head is in: at once where 8 octets of it are the head and 8 the message's, as in 128-NIA2.
-fn early_state(head: &[u8], message: &[u8], k: usize) -> [[u8; 4]; 4]
+fn early_state(head: &[u8], message: &[u8], k: usize) -> State
     requires { k < length head.now }
     ensures { result ≡ to_state (sixteen (λ j. slice_index (head.now ++ message.now ++ (128 ∷ [])) (k + j))) }
 {
@@ -155,11 +153,7 @@ fn padded_block(message: &[u8], i: usize) -> [u8; 16]
 {
     let rest = message.len() - i;
     let mut b = [0u8; 16];
-    let mut j = 0;
-    while j < rest {
-        b[j] = message[i + j];
-        j += 1;
-    }
+    b[..rest].copy_from_slice(&message[i..]);
     if rest < 16 {
         b[rest] = 128;
     }
@@ -179,7 +173,7 @@ fn last_block(head: &[u8], message: &[u8], k: usize) -> [u8; 16]
 }
 
 // The last block with the subkey for a whole one, or for one that was padded.
-fn keyed_state(k1: [u8; 16], k2: [u8; 16], b: [u8; 16], whole: bool) -> [[u8; 4]; 4]
+fn keyed_state(k1: [u8; 16], k2: [u8; 16], b: [u8; 16], whole: bool) -> State
     ensures { result ≡ to_state (if whole then xor k1 b else xor k2 b) }
 {
     if whole {
@@ -190,14 +184,7 @@ fn keyed_state(k1: [u8; 16], k2: [u8; 16], b: [u8; 16], whole: bool) -> [[u8; 4]
 }
 
 // Block i of the chain, of which n come before the last.
-fn chain_state(
-    k1: [u8; 16],
-    k2: [u8; 16],
-    head: &[u8],
-    message: &[u8],
-    n: usize,
-    i: usize,
-) -> [[u8; 4]; 4]
+fn chain_state(k1: [u8; 16], k2: [u8; 16], head: &[u8], message: &[u8], n: usize, i: usize) -> State
     requires { (i ≤ n) × (n ≡ (length head.now + length message.now - 1) / 16) }
     ensures { result ≡ to_state (chain_block k1 k2 (head.now ++ message.now) i) }
 {
@@ -221,93 +208,61 @@ fn blocks_before_last(octets: usize) -> usize
 // The CMAC from block `from` on, where x is what the blocks before have made, as two numbers: octets would be taken for a vector, and
 // the chain with them.
 pub fn cmac_from(
-    table: &[u64; 256],
-    w: &[u8; 176],
+    w: &Schedule,
     k1: [u8; 16],
     k2: [u8; 16],
     head: &[u8],
     message: &[u8],
-    x: [[u8; 4]; 4],
+    x: State,
     from: usize,
 ) -> [u64; 2]
-    requires { (table.now ≡ mix_table) × (from ≤ (length head.now + length message.now - 1) / 16) × (from_state x ≡ chain (cipher w.now) (head.now ++ message.now) from) }
+    requires { (from ≤ (length head.now + length message.now - 1) / 16) × (from_state x ≡ chain (cipher w.now) (head.now ++ message.now) from) }
     ensures { of_halves result ≡ cmac_by (cipher w.now) k1 k2 (head.now ++ message.now) }
 {
     let n = blocks_before_last(head.len() + message.len());
     let mut x = x;
-    let mut i = from;
-    while i <= n {
+    for i in from..n + 1 {
         let b = chain_state(k1, k2, head, message, n, i);
-        let next = encrypt_state(table, w, xor_states(x, b));
+        let next = encrypt_state(w, xor_states(x, b));
         x = next;
-        i += 1;
     }
-    let a = x[0];
-    let b = x[1];
-    let c = x[2];
-    let d = x[3];
+    let [a, b, c, d] = x;
     [
-        low64(a[0], a[1], a[2], a[3], b[0], b[1], b[2], b[3]),
-        low64(c[0], c[1], c[2], c[3], d[0], d[1], d[2], d[3]),
+        u64::from_be_bytes([a[0], a[1], a[2], a[3], b[0], b[1], b[2], b[3]]),
+        u64::from_be_bytes([c[0], c[1], c[2], c[3], d[0], d[1], d[2], d[3]]),
     ]
 }
 
-pub fn cmac_with(
-    table: &[u64; 256],
-    w: &[u8; 176],
-    k1: [u8; 16],
-    k2: [u8; 16],
-    head: &[u8],
-    message: &[u8],
-) -> [u64; 2]
-    requires { table.now ≡ mix_table }
+pub fn cmac_with(w: &Schedule, k1: [u8; 16], k2: [u8; 16], head: &[u8], message: &[u8]) -> [u64; 2]
     ensures { of_halves result ≡ cmac_by (cipher w.now) k1 k2 (head.now ++ message.now) }
 {
-    cmac_from(table, w, k1, k2, head, message, [[0u8; 4]; 4], 0)
+    cmac_from(w, k1, k2, head, message, [[0u8; 4]; 4], 0)
 }
 
 // The block of two numbers.
 fn block_of(h: [u64; 2]) -> [u8; 16]
     ensures { result ≡ of_halves h }
 {
-    let a = h[0];
-    let b = h[1];
-    [
-        (a / 0x100_0000_0000_0000 % 256) as u8,
-        (a / 0x1_0000_0000_0000 % 256) as u8,
-        (a / 0x100_0000_0000 % 256) as u8,
-        (a / 0x1_0000_0000 % 256) as u8,
-        (a / 0x100_0000 % 256) as u8,
-        (a / 0x1_0000 % 256) as u8,
-        (a / 0x100 % 256) as u8,
-        (a % 256) as u8,
-        (b / 0x100_0000_0000_0000 % 256) as u8,
-        (b / 0x1_0000_0000_0000 % 256) as u8,
-        (b / 0x100_0000_0000 % 256) as u8,
-        (b / 0x1_0000_0000 % 256) as u8,
-        (b / 0x100_0000 % 256) as u8,
-        (b / 0x1_0000 % 256) as u8,
-        (b / 0x100 % 256) as u8,
-        (b % 256) as u8,
-    ]
+    let mut b = [0u8; 16];
+    b[..8].copy_from_slice(&h[0].to_be_bytes());
+    b[8..].copy_from_slice(&h[1].to_be_bytes());
+    b
 }
 
 // 6.1: the cipher of a block of zeros, doubled. That cipher is the CMAC of the block where both subkeys are zeros: so a block is ciphered
 // at one place, and inlined there.
-pub fn subkey(table: &[u64; 256], w: &[u8; 176]) -> [u8; 16]
-    requires { table.now ≡ mix_table }
+pub fn subkey(w: &Schedule) -> [u8; 16]
     ensures { result ≡ subkey1 (cipher w.now) }
 {
     let z = [0u8; 8];
-    double(block_of(cmac_with(table, w, [0u8; 16], [0u8; 16], &z, &z)))
+    double(block_of(cmac_with(w, [0u8; 16], [0u8; 16], &z, &z)))
 }
 
 // The CMAC of a head and a message behind it, under an expanded key.
-pub fn cmac(w: &[u8; 176], head: &[u8], message: &[u8]) -> [u8; 16]
+pub fn cmac(w: &Schedule, head: &[u8], message: &[u8]) -> [u8; 16]
     ensures { result ≡ cmac_of (cipher w.now) (head.now ++ message.now) }
 {
-    let table = mix_table();
-    let k1 = subkey(&table, w);
+    let k1 = subkey(w);
     let k2 = double(k1);
-    block_of(cmac_with(&table, w, k1, k2, head, message))
+    block_of(cmac_with(w, k1, k2, head, message))
 }

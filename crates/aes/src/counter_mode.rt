@@ -2,56 +2,28 @@
 ghost use Rattle.std.specs.Prelude.{◌≡◌, ℕ, ◌+◌, ◌-◌, ◌*◌, ◌%◌, ◌<◌, ◌≤◌, List, [], ◌∷◌, ◌++◌, length, take, drop, slice_index, slice_index_or, slice_range};
 ghost use Rattle.aes.specs.Octets.{four, xor, octets, number};
 ghost use Rattle.aes.specs.Cipher.{from_state, cipher};
-ghost use Rattle.aes_block.specs.Mix.{mix_table, Shared};
+ghost use Rattle.aes_block.specs.Mix.{Shared};
 ghost use Rattle.aes.specs.Counter.{counter, ctr_of};
 
-use aes_block::{from_state, left, mix_table, right, second_state, shared, two_states};
+use aes_block::{Schedule, State, Word, from_state, left, right, second_state, shared, two_states};
 
-// The number that 8 octets write.
-pub fn low64(a: u8, b: u8, c: u8, d: u8, e: u8, f: u8, g: u8, h: u8) -> u64
-    ensures { result ≡ number (a ∷ b ∷ c ∷ d ∷ e ∷ f ∷ g ∷ h ∷ []) }
-{
-    a as u64 * 0x100_0000_0000_0000
-        + b as u64 * 0x1_0000_0000_0000
-        + c as u64 * 0x100_0000_0000
-        + d as u64 * 0x1_0000_0000
-        + e as u64 * 0x100_0000
-        + f as u64 * 0x1_0000
-        + g as u64 * 0x100
-        + h as u64
-}
-
+// The last 8 octets of a block as a number.
 fn numbered(t: [u8; 16], n: u64) -> [u8; 16]
     ensures { result ≡ take 8 t ++ octets 8 n }
 {
-    [
-        t[0],
-        t[1],
-        t[2],
-        t[3],
-        t[4],
-        t[5],
-        t[6],
-        t[7],
-        (n / 0x100_0000_0000_0000 % 256) as u8,
-        (n / 0x1_0000_0000_0000 % 256) as u8,
-        (n / 0x100_0000_0000 % 256) as u8,
-        (n / 0x1_0000_0000 % 256) as u8,
-        (n / 0x100_0000 % 256) as u8,
-        (n / 0x1_0000 % 256) as u8,
-        (n / 0x100 % 256) as u8,
-        (n % 256) as u8,
-    ]
+    let mut b = t;
+    b[8..].copy_from_slice(&n.to_be_bytes());
+    b
 }
 
 pub fn counter_block(t: [u8; 16], n: usize) -> [u8; 16]
     ensures { result ≡ counter t n }
 {
-    let base = low64(t[8], t[9], t[10], t[11], t[12], t[13], t[14], t[15]);
-    numbered(t, std::num::wrapping_add_u64(base, n as u64))
+    let base = u64::from_be_bytes([t[8], t[9], t[10], t[11], t[12], t[13], t[14], t[15]]);
+    numbered(t, base.wrapping_add(n as u64))
 }
 
-fn xor_four(m: &mut [u8], i: usize, k: [u8; 4])
+fn xor_four(m: &mut [u8], i: usize, k: Word)
     requires { i + 3 < length m.old }
     ensures { m.new ≡ take i m.old ++ xor (take 4 (drop i m.old)) (four (λ j. slice_index k j)) ++ drop (i + 4) m.old }
 {
@@ -65,7 +37,7 @@ fn xor_four(m: &mut [u8], i: usize, k: [u8; 4])
     m[i + 3] = d;
 }
 
-pub fn xor_state(m: &mut [u8], i: usize, s: [[u8; 4]; 4])
+pub fn xor_state(m: &mut [u8], i: usize, s: State)
     requires { i + 15 < length m.old }
     ensures { m.new ≡ take i m.old ++ xor (take 16 (drop i m.old)) (from_state s) ++ drop (i + 16) m.old }
 {
@@ -93,7 +65,7 @@ fn xor_part(m: &mut [u8], i: usize, end: usize, k: [u8; 16])
 }
 
 // The same under two output blocks: at most 32 octets.
-fn xor_rest(m: &mut [u8], i: usize, end: usize, s: [[u8; 4]; 8])
+fn xor_rest(m: &mut [u8], i: usize, end: usize, s: [Word; 8])
     requires { (i ≤ end) × (end ≤ length m.old) × (end - i ≤ 32) }
     ensures { m.new ≡ take i m.old ++ xor (slice_range m.old i end) (from_state (four (λ c. slice_index_or s c [])) ++ from_state (four (λ c. slice_index_or s (c + 4) []))) ++ drop end m.old }
 {
@@ -103,25 +75,17 @@ fn xor_rest(m: &mut [u8], i: usize, end: usize, s: [[u8; 4]; 8])
 }
 
 // Blocks n and on, to octet end of a message: they share g, and what lies before is under the key stream already.
-fn ctr_run(
-    table: &[u64; 256],
-    w: &[u8; 176],
-    t: [u8; 16],
-    g: [[u8; 4]; 5],
-    m: &mut [u8],
-    n: usize,
-    end: usize,
-)
-    requires { (table.now ≡ mix_table) × Shared w.now (counter t n) g × (n * 16 ≤ end) × (end ≤ length m.old) × (end + slice_index (counter t n) 15 * 16 ≤ n * 16 + 4096) }
+fn ctr_run(w: &Schedule, t: [u8; 16], g: [Word; 5], m: &mut [u8], n: usize, end: usize)
+    requires { Shared w.now (counter t n) g × (n * 16 ≤ end) × (end ≤ length m.old) × (end + slice_index (counter t n) 15 * 16 ≤ n * 16 + 4096) }
     ensures { (l : List ℕ) → m.old ≡ ctr_of (cipher w.now) t (take (n * 16) l) ++ drop (n * 16) l → m.new ≡ ctr_of (cipher w.now) t (take end l) ++ drop end l }
 {
     let b = counter_block(t, n);
     let mut o = b[15];
     let mut i = n * 16;
     while i < end {
-        let p = second_state(table, w, g, o);
-        let q = second_state(table, w, g, std::num::wrapping_add_u8(o, 1));
-        let s = two_states(table, w, w, p, q);
+        let p = second_state(w, g, o);
+        let q = second_state(w, g, o.wrapping_add(1));
+        let s = two_states(w, w, p, q);
         if 32 <= end - i {
             xor_state(m, i, left(s));
             xor_state(m, i + 16, right(s));
@@ -130,7 +94,7 @@ fn ctr_run(
             xor_rest(m, i, end, s);
             i = end;
         }
-        o = std::num::wrapping_add_u8(o, 2);
+        o = o.wrapping_add(2);
     }
 }
 
@@ -144,31 +108,23 @@ pub fn run_end(o: u8, i: usize, end: usize) -> usize
 }
 
 // Blocks n and on, to octet end of a message, where what lies before is under the key stream already.
-pub fn ctr_to(table: &[u64; 256], w: &[u8; 176], t: [u8; 16], m: &mut [u8], n: usize, end: usize)
-    requires { (table.now ≡ mix_table) × (n * 16 ≤ end) × (end ≤ length m.old) }
+pub fn ctr_to(w: &Schedule, t: [u8; 16], m: &mut [u8], n: usize, end: usize)
+    requires { (n * 16 ≤ end) × (end ≤ length m.old) }
     ensures { (l : List ℕ) → m.old ≡ ctr_of (cipher w.now) t (take (n * 16) l) ++ drop (n * 16) l → m.new ≡ ctr_of (cipher w.now) t (take end l) ++ drop end l }
 {
     let mut i = n * 16;
     while i < end {
         let b = counter_block(t, i / 16);
-        let g = shared(table, w, b);
+        let g = shared(w, b);
         let next = run_end(b[15], i, end);
-        ctr_run(table, w, t, g, m, i / 16, next);
+        ctr_run(w, t, g, m, i / 16, next);
         i = next;
     }
 }
 
-pub fn ctr_with(table: &[u64; 256], w: &[u8; 176], t: [u8; 16], m: &mut [u8])
-    requires { table.now ≡ mix_table }
-    ensures { m.new ≡ ctr_of (cipher w.now) t m.old }
-{
-    ctr_to(table, w, t, m, 0, m.len());
-}
-
 // Counter mode in place, under an expanded key and from the first counter block t.
-pub fn ctr(w: &[u8; 176], t: [u8; 16], m: &mut [u8])
+pub fn ctr(w: &Schedule, t: [u8; 16], m: &mut [u8])
     ensures { m.new ≡ ctr_of (cipher w.now) t m.old }
 {
-    let table = mix_table();
-    ctr_with(&table, w, t, m);
+    ctr_to(w, t, m, 0, m.len());
 }

@@ -4,15 +4,14 @@ ghost use Rattle.aes.specs.Keys.{key_of};
 
 use crate::Key;
 use crate::cmac_mode::{double, subkey};
-use aes_block::{expand_key, mix_table};
+use aes_block::expand_key;
 
 impl Key {
     pub fn of(octets: [u8; 16]) -> Key
         ensures { result ≡ key_of octets }
     {
         let schedule = expand_key(octets);
-        let table = mix_table();
-        let subkey1 = subkey(&table, &schedule);
+        let subkey1 = subkey(&schedule);
         let subkey2 = double(subkey1);
         Key {
             octets,

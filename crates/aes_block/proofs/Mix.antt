@@ -1,27 +1,27 @@
 -- The table of the mixed S-box values: the octets of an entry, and a column put together from four entries.
 -- Assumes nothing.
 use mathlib.Core.Path.{◌≡◌, refl, ap, sym, ◌∙◌}
-use mathlib.Core.List.{List, [], ◌∷◌, map, zip_with}
-use Prim.Native.Nat.{ℕ, ◌/◌, ◌%◌, ◌≤◌}
+use mathlib.Core.List.{List, [], ◌∷◌, zip_with}
+use Prim.Native.Nat.{ℕ, zero, suc, ◌+◌, ◌-◌, ◌/◌, ◌%◌, ◌<◌, ◌≤◌}
 use native.Mathlib.Omega.{arith}
 use lib.Bits.{bit_xor, xor_comm}
-use lib.ListN.{length}
+use lib.ListN.{length, get_or}
+use Rattle.std.specs.Int.{to_le_bytes, w64}
 use Rattle.aes_block.specs.Octets.{four, xor}
-use Rattle.aes_block.specs.Field.{times, times_bits, x_times, sbox, sbox_table}
+use Rattle.aes_block.specs.Field.{times, times_bits, x_times, sbox}
 use Rattle.aes_block.specs.Cipher.{mixed}
-use Rattle.aes_block.specs.Mix.{mix_entry, mix_table, row}
+use Rattle.aes_block.specs.Mix.{mix_entry, row}
 use Rattle.aes_block.proofs.Tables.{same-table}
 use Rattle.aes_block.proofs.Lists.{four-by}
 use Rattle.aes_block.proofs.Field.{sbox-octet}
 use Rattle.aes_block.proofs.Xor.{other_way, xors-swap, xor-twice}
 
--- a table whose entries are those of their values, and these the S-box's
-pub by_values : (l : List ℕ) → map (λ e. e / 256 % 256) l ≡ sbox_table → l ≡ map mix_entry (map (λ e. e / 256 % 256) l) → l ≡ mix_table
-unfolding mix_table
-by_values l e f = f ∙ ap (map mix_entry) e
+-- the octets of an entry, from the lowest on
+abbrev pub twice : ℕ → List ℕ
+twice s = times 2 s ∷ s ∷ s ∷ times 3 s ∷ times 2 s ∷ s ∷ s ∷ times 3 s ∷ []
 
 module _ (b : ℕ) where
-  pub octet-0 : mix_entry (sbox b) % 256 ≡ times 2 (sbox b)
+  octet-0 : mix_entry (sbox b) % 256 ≡ times 2 (sbox b)
   unfolding times times_bits x_times
   octet-0 = same-table (λ s. mix_entry s % 256) (times 2) 256 (sbox b) refl (sbox-octet b)
 
@@ -29,25 +29,39 @@ module _ (b : ℕ) where
   unfolding times times_bits x_times
   octet-1 = same-table (λ s. mix_entry s / 256 % 256) (λ s. s) 256 (sbox b) refl (sbox-octet b)
 
-  pub octet-2 : mix_entry (sbox b) / 65536 % 256 ≡ sbox b
+  octet-2 : mix_entry (sbox b) / 65536 % 256 ≡ sbox b
   unfolding times times_bits x_times
   octet-2 = same-table (λ s. mix_entry s / 65536 % 256) (λ s. s) 256 (sbox b) refl (sbox-octet b)
 
-  pub octet-3 : mix_entry (sbox b) / 16777216 % 256 ≡ times 3 (sbox b)
+  octet-3 : mix_entry (sbox b) / 16777216 % 256 ≡ times 3 (sbox b)
   unfolding times times_bits x_times
   octet-3 = same-table (λ s. mix_entry s / 16777216 % 256) (times 3) 256 (sbox b) refl (sbox-octet b)
 
-  pub octet-4 : mix_entry (sbox b) / 4294967296 % 256 ≡ times 2 (sbox b)
+  octet-4 : mix_entry (sbox b) / 4294967296 % 256 ≡ times 2 (sbox b)
   unfolding times times_bits x_times
   octet-4 = same-table (λ s. mix_entry s / 4294967296 % 256) (times 2) 256 (sbox b) refl (sbox-octet b)
 
-  pub octet-5 : mix_entry (sbox b) / 1099511627776 % 256 ≡ sbox b
+  octet-5 : mix_entry (sbox b) / 1099511627776 % 256 ≡ sbox b
   unfolding times times_bits x_times
   octet-5 = same-table (λ s. mix_entry s / 1099511627776 % 256) (λ s. s) 256 (sbox b) refl (sbox-octet b)
 
-  pub octet-6 : mix_entry (sbox b) / 281474976710656 % 256 ≡ sbox b
+  octet-6 : mix_entry (sbox b) / 281474976710656 % 256 ≡ sbox b
   unfolding times times_bits x_times
   octet-6 = same-table (λ s. mix_entry s / 281474976710656 % 256) (λ s. s) 256 (sbox b) refl (sbox-octet b)
+
+  octet-7 : mix_entry (sbox b) / 72057594037927936 % 256 ≡ times 3 (sbox b)
+  unfolding times times_bits x_times
+  octet-7 = same-table (λ s. mix_entry s / 72057594037927936 % 256) (times 3) 256 (sbox b) refl (sbox-octet b)
+
+  pub entry-octets : to_le_bytes w64 (mix_entry (sbox b)) ≡ twice (sbox b)
+  entry-octets = λ i. octet-0 i ∷ octet-1 i ∷ octet-2 i ∷ octet-3 i ∷ octet-4 i ∷ octet-5 i ∷ octet-6 i ∷ octet-7 i ∷ []
+
+pub row-of : (r s : ℕ) → r < 4 → (let k = (4 - r) % 4 in let l = twice s in get_or l k 0 ∷ get_or l (k + 1) 0 ∷ get_or l (k + 2) 0 ∷ get_or l (k + 3) 0 ∷ []) ≡ row r s
+row-of zero s h = refl
+row-of (suc zero) s h = refl
+row-of (suc (suc zero)) s h = refl
+row-of (suc (suc (suc zero))) s h = refl
+row-of (suc (suc (suc (suc r)))) s h = absurd (omega arith)
 
 -- the first of four goes to the end
 turn : (p q u v : ℕ) → bit_xor (bit_xor (bit_xor p q) u) v ≡ bit_xor (bit_xor (bit_xor q u) v) p

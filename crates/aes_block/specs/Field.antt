@@ -1,8 +1,7 @@
 -- FIPS 197 (2023) section 4 and 5.1.1: octets as the field GF(2^8), and the S-box.
 -- Assumes nothing.
-use Rattle.std.specs.Prelude.{cond, List, map, ℕ, zero, suc, ◌+◌, ◌-◌, ◌*◌, ◌/◌, ◌%◌, ◌^◌, ltb}
+use Rattle.std.specs.Prelude.{cond, ℕ, zero, suc, ◌+◌, ◌-◌, ◌*◌, ◌/◌, ◌%◌, ◌^◌, ltb}
 use Rattle.std.specs.Int.Bits.{bit_xor}
-use Rattle.aes_block.specs.Octets.{below}
 
 -- 4.2, x_times: times x, modulo x^8 + x^4 + x^3 + x + 1
 unfoldable pub x_times : ℕ → ℕ
@@ -38,9 +37,6 @@ of_bits f = f 0 + f 1 * 2 + f 2 * 4 + f 3 * 8 + f 4 * 16 + f 5 * 32 + f 6 * 64 +
 unfoldable pub affine : ℕ → ℕ
 affine b = of_bits (λ i. (bit b i + bit b ((i + 4) % 8) + bit b ((i + 5) % 8) + bit b ((i + 6) % 8) + bit b ((i + 7) % 8) + bit 99 i) % 2)
 
--- 5.1.1: the S-box, and its table
+-- 5.1.1: the S-box
 unfoldable pub sbox : ℕ → ℕ
 sbox b = affine (inverse b)
-
-unfoldable pub sbox_table : List ℕ
-sbox_table = map sbox (below 256)

@@ -1,18 +1,15 @@
 -- What the private contracts speak of: the table that the code ciphers by, FIPS 197 (2023) 5.1.1 and 5.1.3 in one, and what blocks share of the
 -- first two rounds. No part of the standard.
 -- Assumes nothing.
-use Rattle.std.specs.Prelude.{◌≡◌, List, [], ◌∷◌, ◌++◌, map, ℕ, zero, suc, ◌+◌, ◌-◌, ◌%◌, take, get_or}
+use Rattle.std.specs.Prelude.{◌≡◌, List, [], ◌∷◌, ◌++◌, ℕ, zero, suc, ◌+◌, ◌-◌, ◌%◌, take, get_or}
 use Rattle.std.specs.Int.Bits.{bit_xor}
 use Rattle.aes_block.specs.Octets.{four, xor, number}
-use Rattle.aes_block.specs.Field.{times, sbox, sbox_table}
+use Rattle.aes_block.specs.Field.{times, sbox}
 use Rattle.aes_block.specs.Cipher.{to_state, sub_bytes, shift_rows, mix_columns, add_round_key, rounds}
 
 -- a value s of the S-box with its products, twice: any four octets in a row are what s gives to a mixed column, by its row
 abbrev pub mix_entry : ℕ → ℕ
 mix_entry s = number (times 3 s ∷ s ∷ s ∷ times 2 s ∷ times 3 s ∷ s ∷ s ∷ times 2 s ∷ [])
-
-unfoldable pub mix_table : List ℕ
-mix_table = map mix_entry sbox_table
 
 -- what a value s of the S-box in row r gives to the mixed column
 abbrev pub row : ℕ → ℕ → List ℕ

@@ -3,19 +3,18 @@ ghost use Rattle.std.specs.Prelude.{◌≡◌, ◌∷◌, [], ◌≤◌, ◌<◌
 ghost use Rattle.aes_block.specs.Octets.{four, xor};
 ghost use Rattle.aes_block.specs.Field.{sbox};
 ghost use Rattle.aes_block.specs.Cipher.{to_state, from_state, sub_bytes, shift_rows, mixed, mix_columns, word, add_round_key, rounds, cipher};
-ghost use Rattle.aes_block.specs.Mix.{mix_table};
 
-use crate::columns::{mix_table, mixed_octets, unmixed_octets};
-use crate::words::{word_at, xor_word};
+use crate::columns::{mixed_octets, unmixed_octets};
+use crate::words::{Schedule, State, Word, word_at, xor_word};
 
-fn keyed_column(w: &[u8; 176], i: usize, t: [u8; 4]) -> [u8; 4]
+fn keyed_column(w: &Schedule, i: usize, t: Word) -> Word
     requires { i < 44 }
     ensures { result ≡ xor t (word w.now i) }
 {
     xor_word(t, word_at(w, i))
 }
 
-pub fn add_round_key(w: &[u8; 176], n: usize, s: [[u8; 4]; 4]) -> [[u8; 4]; 4]
+pub fn add_round_key(w: &Schedule, n: usize, s: State) -> State
     requires { n ≤ 10 }
     ensures { result ≡ add_round_key w.now n s }
 {
@@ -28,7 +27,7 @@ pub fn add_round_key(w: &[u8; 176], n: usize, s: [[u8; 4]; 4]) -> [[u8; 4]; 4]
     ]
 }
 
-pub fn to_state(b: [u8; 16]) -> [[u8; 4]; 4]
+pub fn to_state(b: [u8; 16]) -> State
     ensures { result ≡ to_state b }
 {
     [
@@ -39,7 +38,7 @@ pub fn to_state(b: [u8; 16]) -> [[u8; 4]; 4]
     ]
 }
 
-pub fn from_state(s: [[u8; 4]; 4]) -> [u8; 16]
+pub fn from_state(s: State) -> [u8; 16]
     ensures { result ≡ from_state s }
 {
     [
@@ -48,7 +47,7 @@ pub fn from_state(s: [[u8; 4]; 4]) -> [u8; 16]
     ]
 }
 
-pub fn xor_states(a: [[u8; 4]; 4], b: [[u8; 4]; 4]) -> [[u8; 4]; 4]
+pub fn xor_states(a: State, b: State) -> State
     ensures { result ≡ to_state (xor (from_state a) (from_state b)) }
 {
     [
@@ -60,23 +59,15 @@ pub fn xor_states(a: [[u8; 4]; 4], b: [[u8; 4]; 4]) -> [[u8; 4]; 4]
 }
 
 // The new column of which the octets stand in the rows of four columns.
-fn mixed_column(
-    table: &[u64; 256],
-    w: &[u8; 176],
-    i: usize,
-    a: [u8; 4],
-    b: [u8; 4],
-    c: [u8; 4],
-    d: [u8; 4],
-) -> [u8; 4]
-    requires { (table.now ≡ mix_table) × (i < 44) }
+fn mixed_column(w: &Schedule, i: usize, a: Word, b: Word, c: Word, d: Word) -> Word
+    requires { i < 44 }
     ensures { result ≡ xor (four (mixed (sbox (get_or a 0 0) ∷ sbox (get_or b 1 0) ∷ sbox (get_or c 2 0) ∷ sbox (get_or d 3 0) ∷ []))) (word w.now i) }
 {
-    mixed_octets(table, word_at(w, i), a[0], b[1], c[2], d[3])
+    mixed_octets(word_at(w, i), a[0], b[1], c[2], d[3])
 }
 
-pub fn middle_round(table: &[u64; 256], w: &[u8; 176], n: usize, s: [[u8; 4]; 4]) -> [[u8; 4]; 4]
-    requires { (table.now ≡ mix_table) × (n ≤ 10) }
+pub fn middle_round(w: &Schedule, n: usize, s: State) -> State
+    requires { n ≤ 10 }
     ensures { result ≡ add_round_key w.now n (mix_columns (shift_rows (sub_bytes s))) }
 {
     let i = n * 4;
@@ -85,30 +76,21 @@ pub fn middle_round(table: &[u64; 256], w: &[u8; 176], n: usize, s: [[u8; 4]; 4]
     let c = s[2];
     let d = s[3];
     [
-        mixed_column(table, w, i, a, b, c, d),
-        mixed_column(table, w, i + 1, b, c, d, a),
-        mixed_column(table, w, i + 2, c, d, a, b),
-        mixed_column(table, w, i + 3, d, a, b, c),
+        mixed_column(w, i, a, b, c, d),
+        mixed_column(w, i + 1, b, c, d, a),
+        mixed_column(w, i + 2, c, d, a, b),
+        mixed_column(w, i + 3, d, a, b, c),
     ]
 }
 
-pub fn last_column(
-    table: &[u64; 256],
-    w: &[u8; 176],
-    i: usize,
-    a: [u8; 4],
-    b: [u8; 4],
-    c: [u8; 4],
-    d: [u8; 4],
-) -> [u8; 4]
-    requires { (table.now ≡ mix_table) × (i < 44) }
+pub fn last_column(w: &Schedule, i: usize, a: Word, b: Word, c: Word, d: Word) -> Word
+    requires { i < 44 }
     ensures { result ≡ xor (sbox (get_or a 0 0) ∷ sbox (get_or b 1 0) ∷ sbox (get_or c 2 0) ∷ sbox (get_or d 3 0) ∷ []) (word w.now i) }
 {
-    unmixed_octets(table, word_at(w, i), a[0], b[1], c[2], d[3])
+    unmixed_octets(word_at(w, i), a[0], b[1], c[2], d[3])
 }
 
-fn last_round(table: &[u64; 256], w: &[u8; 176], s: [[u8; 4]; 4]) -> [[u8; 4]; 4]
-    requires { table.now ≡ mix_table }
+fn last_round(w: &Schedule, s: State) -> State
     ensures { result ≡ add_round_key w.now 10 (shift_rows (sub_bytes s)) }
 {
     let a = s[0];
@@ -116,53 +98,48 @@ fn last_round(table: &[u64; 256], w: &[u8; 176], s: [[u8; 4]; 4]) -> [[u8; 4]; 4
     let c = s[2];
     let d = s[3];
     [
-        last_column(table, w, 40, a, b, c, d),
-        last_column(table, w, 41, b, c, d, a),
-        last_column(table, w, 42, c, d, a, b),
-        last_column(table, w, 43, d, a, b, c),
+        last_column(w, 40, a, b, c, d),
+        last_column(w, 41, b, c, d, a),
+        last_column(w, 42, c, d, a, b),
+        last_column(w, 43, d, a, b, c),
     ]
 }
 
 // Written out, and each called at one place, so that the state stays in registers.
-fn rounds_to_3(table: &[u64; 256], w: &[u8; 176], s: [[u8; 4]; 4]) -> [[u8; 4]; 4]
-    requires { table.now ≡ mix_table }
+fn rounds_to_3(w: &Schedule, s: State) -> State
     ensures { result ≡ rounds w.now 3 s }
 {
-    let a = middle_round(table, w, 1, s);
-    let b = middle_round(table, w, 2, a);
-    middle_round(table, w, 3, b)
+    let a = middle_round(w, 1, s);
+    let b = middle_round(w, 2, a);
+    middle_round(w, 3, b)
 }
 
-fn rounds_to_6(table: &[u64; 256], w: &[u8; 176], s: [[u8; 4]; 4]) -> [[u8; 4]; 4]
-    requires { table.now ≡ mix_table }
+fn rounds_to_6(w: &Schedule, s: State) -> State
     ensures { result ≡ rounds w.now 6 s }
 {
-    let a = middle_round(table, w, 4, rounds_to_3(table, w, s));
-    let b = middle_round(table, w, 5, a);
-    middle_round(table, w, 6, b)
+    let a = middle_round(w, 4, rounds_to_3(w, s));
+    let b = middle_round(w, 5, a);
+    middle_round(w, 6, b)
 }
 
-fn rounds_to_9(table: &[u64; 256], w: &[u8; 176], s: [[u8; 4]; 4]) -> [[u8; 4]; 4]
-    requires { table.now ≡ mix_table }
+fn rounds_to_9(w: &Schedule, s: State) -> State
     ensures { result ≡ rounds w.now 9 s }
 {
-    let a = middle_round(table, w, 7, rounds_to_6(table, w, s));
-    let b = middle_round(table, w, 8, a);
-    middle_round(table, w, 9, b)
+    let a = middle_round(w, 7, rounds_to_6(w, s));
+    let b = middle_round(w, 8, a);
+    middle_round(w, 9, b)
 }
 
 // The state that a block ends in. Called at one place of each loop, so that it is inlined there.
-pub fn encrypt_state(table: &[u64; 256], w: &[u8; 176], s: [[u8; 4]; 4]) -> [[u8; 4]; 4]
-    requires { table.now ≡ mix_table }
+pub fn encrypt_state(w: &Schedule, s: State) -> State
     ensures { result ≡ to_state (cipher w.now (from_state s)) }
 {
-    last_round(table, w, rounds_to_9(table, w, add_round_key(w, 0, s)))
+    last_round(w, rounds_to_9(w, add_round_key(w, 0, s)))
 }
 
 // One block under an expanded key.
-pub fn encrypt_block(w: &[u8; 176], b: [u8; 16]) -> [u8; 16]
+pub fn encrypt_block(w: &Schedule, b: [u8; 16]) -> [u8; 16]
     ensures { result ≡ cipher w.now b }
 {
-    let table = mix_table();
-    from_state(encrypt_state(&table, w, to_state(b)))
+    from_state(encrypt_state(w, to_state(b)))
 }

@@ -1,14 +1,14 @@
 // FIPS 197 5.1.1 and 5.1.3 in one: columns by a table of the S-box values with their products.
-ghost use Rattle.std.specs.Prelude.{◌≡◌, ◌∷◌, []};
+ghost use Rattle.std.specs.Prelude.{◌≡◌, ◌<◌, ◌∷◌, []};
 ghost use Rattle.aes_block.specs.Octets.{four, xor};
 ghost use Rattle.aes_block.specs.Field.{sbox};
 ghost use Rattle.aes_block.specs.Cipher.{mixed};
-ghost use Rattle.aes_block.specs.Mix.{mix_entry, mix_table, row};
+ghost use Rattle.aes_block.specs.Mix.{mix_entry, row};
 
-use crate::words::xor_word;
+use crate::words::{Word, xor_word};
 
-// A value s of the S-box as the octets 3s, s, s, 2s, twice.
-const MIX: [u64; 256] = [
+// A value s of the S-box as the octets 3s, s, s, 2s, twice. A static is read where it lies: a constant would be written to the stack.
+static MIX: [u64; 256] = [
     0xa563_63c6_a563_63c6,
     0x847c_7cf8_847c_7cf8,
     0x9977_77ee_9977_77ee,
@@ -267,103 +267,40 @@ const MIX: [u64; 256] = [
     0x3a16_162c_3a16_162c,
 ];
 
-// The table is written to the stack where it is named: once for a message, and lent to what works on it.
-pub fn mix_table() -> [u64; 256]
-    ensures { result ≡ mix_table }
-{
-    MIX
-}
-
-fn entry(table: &[u64; 256], b: u8) -> u64
-    requires { table.now ≡ mix_table }
+fn entry(b: u8) -> u64
     ensures { result ≡ mix_entry (sbox b) }
 {
-    table[b as usize]
+    MIX[b as usize]
 }
 
-// What an octet in row 0, 1, 2 or 3 of a column gives to the mixed column.
-pub fn from_row_0(table: &[u64; 256], b: u8) -> [u8; 4]
-    requires { table.now ≡ mix_table }
-    ensures { result ≡ row 0 (sbox b) }
+// What an octet in row R of a column gives to the mixed column.
+pub fn from_row<const R: usize>(b: u8) -> Word
+    requires { R < 4 }
+    ensures { result ≡ row R (sbox b) }
 {
-    let e = entry(table, b);
-    [
-        (e % 256) as u8,
-        (e / 0x100 % 256) as u8,
-        (e / 0x1_0000 % 256) as u8,
-        (e / 0x100_0000 % 256) as u8,
-    ]
-}
-
-pub fn from_row_1(table: &[u64; 256], b: u8) -> [u8; 4]
-    requires { table.now ≡ mix_table }
-    ensures { result ≡ row 1 (sbox b) }
-{
-    let e = entry(table, b);
-    [
-        (e / 0x100_0000 % 256) as u8,
-        (e / 0x1_0000_0000 % 256) as u8,
-        (e / 0x100_0000_0000 % 256) as u8,
-        (e / 0x1_0000_0000_0000 % 256) as u8,
-    ]
-}
-
-pub fn from_row_2(table: &[u64; 256], b: u8) -> [u8; 4]
-    requires { table.now ≡ mix_table }
-    ensures { result ≡ row 2 (sbox b) }
-{
-    let e = entry(table, b);
-    [
-        (e / 0x1_0000 % 256) as u8,
-        (e / 0x100_0000 % 256) as u8,
-        (e / 0x1_0000_0000 % 256) as u8,
-        (e / 0x100_0000_0000 % 256) as u8,
-    ]
-}
-
-pub fn from_row_3(table: &[u64; 256], b: u8) -> [u8; 4]
-    requires { table.now ≡ mix_table }
-    ensures { result ≡ row 3 (sbox b) }
-{
-    let e = entry(table, b);
-    [
-        (e / 0x100 % 256) as u8,
-        (e / 0x1_0000 % 256) as u8,
-        (e / 0x100_0000 % 256) as u8,
-        (e / 0x1_0000_0000 % 256) as u8,
-    ]
+    let e = entry(b).to_le_bytes();
+    let k = (4 - R) % 4;
+    [e[k], e[k + 1], e[k + 2], e[k + 3]]
 }
 
 // The key's word and the mixed column of the S-box values of four octets, in the order that was fastest.
-pub fn mixed_octets(table: &[u64; 256], k: [u8; 4], a: u8, b: u8, c: u8, d: u8) -> [u8; 4]
-    requires { table.now ≡ mix_table }
+pub fn mixed_octets(k: Word, a: u8, b: u8, c: u8, d: u8) -> Word
     ensures { result ≡ xor (four (mixed (sbox a ∷ sbox b ∷ sbox c ∷ sbox d ∷ []))) k }
 {
-    let e = xor_word(xor_word(k, from_row_0(table, a)), from_row_3(table, d));
-    xor_word(xor_word(e, from_row_1(table, b)), from_row_2(table, c))
+    let e = xor_word(xor_word(k, from_row::<0>(a)), from_row::<3>(d));
+    xor_word(xor_word(e, from_row::<1>(b)), from_row::<2>(c))
 }
 
 // The S-box value alone: the last round does not mix.
-fn unmixed(table: &[u64; 256], b: u8) -> u8
-    requires { table.now ≡ mix_table }
+fn unmixed(b: u8) -> u8
     ensures { result ≡ sbox b }
 {
-    let e = entry(table, b);
-    (e / 0x100 % 256) as u8
+    entry(b).to_le_bytes()[1]
 }
 
 // The key's word and the S-box values of four octets.
-pub fn unmixed_octets(table: &[u64; 256], k: [u8; 4], a: u8, b: u8, c: u8, d: u8) -> [u8; 4]
-    requires { table.now ≡ mix_table }
+pub fn unmixed_octets(k: Word, a: u8, b: u8, c: u8, d: u8) -> Word
     ensures { result ≡ xor (sbox a ∷ sbox b ∷ sbox c ∷ sbox d ∷ []) k }
 {
-    xor_word(
-        [
-            unmixed(table, a),
-            unmixed(table, b),
-            unmixed(table, c),
-            unmixed(table, d),
-        ],
-        k,
-    )
+    xor_word([unmixed(a), unmixed(b), unmixed(c), unmixed(d)], k)
 }

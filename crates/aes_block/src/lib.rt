@@ -10,7 +10,7 @@ mod shared_rounds;
 mod words;
 
 pub use cipher::{encrypt_block, encrypt_state, from_state, to_state, xor_states};
-pub use columns::mix_table;
 pub use expansion::expand_key;
 pub use pairs::{left, right, two_states};
 pub use shared_rounds::{second_state, shared, two_rounds};
+pub use words::{Schedule, State, Word};

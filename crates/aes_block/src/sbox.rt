@@ -1,9 +1,11 @@
 // FIPS 197 5.1.1: the S-box as a table, and the substitution of octets by it, for the key expansion.
 ghost use Rattle.std.specs.Prelude.{◌≡◌, get_or};
 ghost use Rattle.aes_block.specs.Octets.{four};
-ghost use Rattle.aes_block.specs.Field.{sbox, sbox_table};
+ghost use Rattle.aes_block.specs.Field.{sbox};
 
-const SBOX: [u8; 256] = [
+use crate::words::Word;
+
+static SBOX: [u8; 256] = [
     99, 124, 119, 123, 242, 107, 111, 197, 48, 1, 103, 43, 254, 215, 171, 118, 202, 130, 201, 125,
     250, 89, 71, 240, 173, 212, 162, 175, 156, 164, 114, 192, 183, 253, 147, 38, 54, 63, 247, 204,
     52, 165, 229, 241, 113, 216, 49, 21, 4, 199, 35, 195, 24, 150, 5, 154, 7, 18, 128, 226, 235,
@@ -19,28 +21,14 @@ const SBOX: [u8; 256] = [
     153, 45, 15, 176, 84, 187, 22,
 ];
 
-// The table is written to the stack where it is named: once for a message, and lent to what works on it.
-pub fn sbox_table() -> [u8; 256]
-    ensures { result ≡ sbox_table }
-{
-    SBOX
-}
-
-fn sub(table: &[u8; 256], b: u8) -> u8
-    requires { table.now ≡ sbox_table }
+fn sub(b: u8) -> u8
     ensures { result ≡ sbox b }
 {
-    table[b as usize]
+    SBOX[b as usize]
 }
 
-pub fn sub_word(table: &[u8; 256], t: [u8; 4]) -> [u8; 4]
-    requires { table.now ≡ sbox_table }
+pub fn sub_word(t: Word) -> Word
     ensures { result ≡ four (λ i. sbox (get_or t i 0)) }
 {
-    [
-        sub(table, t[0]),
-        sub(table, t[1]),
-        sub(table, t[2]),
-        sub(table, t[3]),
-    ]
+    [sub(t[0]), sub(t[1]), sub(t[2]), sub(t[3])]
 }

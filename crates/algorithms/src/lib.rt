@@ -2,92 +2,48 @@
 #![tactic(auto)]
 
 ghost use Rattle.std.specs.Prelude.{◌≡◌, ◌&&◌, ◌++◌, eqb, take, drop};
-ghost use Rattle.snow3g.specs.Uea2.{nea1_of};
-ghost use Rattle.snow3g.specs.Uia2.{nia1_of};
-ghost use Rattle.zuc.specs.Ciphering.{nea3_of};
-ghost use Rattle.zuc.specs.Integrity.{nia3_of};
-ghost use Rattle.algorithms.specs.Codes.{is_built, keyed, code_of, cipher_of};
+ghost use Rattle.algorithms.specs.Codes.{is_built, code_of, cipher_of};
 
-use aes::Key;
+use aes::{Input, Key};
 
+// kept: an algorithm is a number, not an enum: a context of C holds any octet here, and `code` and `cipher` answer for each.
+#[tactic(auto, unfolding(crate::specs::Codes::is_built))]
 pub fn built(algorithm: u8) -> bool
     ensures { result ≡ is_built algorithm }
 {
     algorithm < 4
 }
 
-// SNOW 3G and ZUC take a key's 16 octets as they are.
-fn nia1(key: Key, count: u32, bearer: u8, direction: u8, message: &[u8]) -> [u8; 4]
-    ensures { result ≡ keyed nia1_of key count bearer direction message.now }
+// The code of a message. SNOW 3G and ZUC take a key's 16 octets as they are.
+#[tactic(auto, unfolding(crate::specs::Codes::code_of))]
+pub fn code(algorithm: u8, key: Key, input: Input, message: &[u8]) -> [u8; 4]
+    ensures { result ≡ code_of algorithm key input.count input.bearer input.direction message.now }
 {
-    snow3g::nia1(key.octets(), count, bearer, direction, message)
-}
-
-fn nia3(key: Key, count: u32, bearer: u8, direction: u8, message: &[u8]) -> [u8; 4]
-    ensures { result ≡ keyed nia3_of key count bearer direction message.now }
-{
-    zuc::nia3(key.octets(), count, bearer, direction, message)
-}
-
-fn nea1(key: Key, count: u32, bearer: u8, direction: u8, octets: &mut [u8])
-    ensures { octets.new ≡ keyed nea1_of key count bearer direction octets.old }
-{
-    snow3g::nea1(key.octets(), count, bearer, direction, octets);
-}
-
-fn nea3(key: Key, count: u32, bearer: u8, direction: u8, octets: &mut [u8])
-    ensures { octets.new ≡ keyed nea3_of key count bearer direction octets.old }
-{
-    zuc::nea3(key.octets(), count, bearer, direction, octets);
-}
-
-// The code of a message.
-pub fn code(
-    algorithm: u8,
-    key: Key,
-    count: u32,
-    bearer: u8,
-    direction: u8,
-    message: &[u8],
-) -> [u8; 4]
-    ensures { result ≡ code_of algorithm key count bearer direction message.now }
-{
-    if algorithm == 1 {
-        return nia1(key, count, bearer, direction, message);
+    match algorithm {
+        1 => snow3g::nia1(key.octets(), input, message),
+        2 => aes::nia2(key, input, message),
+        3 => zuc::nia3(key.octets(), input, message),
+        _ => [0; 4],
     }
-    if algorithm == 2 {
-        return aes::nia2(key, count, bearer, direction, message);
-    }
-    if algorithm == 3 {
-        return nia3(key, count, bearer, direction, message);
-    }
-    [0, 0, 0, 0]
 }
 
 // The octets ciphered, or deciphered, where they lie.
-pub fn cipher(algorithm: u8, key: Key, count: u32, bearer: u8, direction: u8, octets: &mut [u8])
-    ensures { octets.new ≡ cipher_of algorithm key count bearer direction octets.old }
+#[tactic(auto, unfolding(crate::specs::Codes::cipher_of))]
+pub fn cipher(algorithm: u8, key: Key, input: Input, octets: &mut [u8])
+    ensures { octets.new ≡ cipher_of algorithm key input.count input.bearer input.direction octets.old }
 {
-    if algorithm == 1 {
-        nea1(key, count, bearer, direction, octets);
-        return;
-    }
-    if algorithm == 2 {
-        aes::nea2(key, count, bearer, direction, octets);
-        return;
-    }
-    if algorithm == 3 {
-        nea3(key, count, bearer, direction, octets);
+    match algorithm {
+        1 => snow3g::nea1(key.octets(), input, octets),
+        2 => aes::nea2(key, input, octets),
+        3 => zuc::nea3(key.octets(), input, octets),
+        _ => {}
     }
 }
 
-pub fn are_aes(integrity: u8, ciphering: u8) -> bool
+fn are_aes(integrity: u8, ciphering: u8) -> bool
     ensures { result ≡ eqb integrity 2 && eqb ciphering 2 }
 {
-    if integrity == 2 {
-        return ciphering == 2;
-    }
-    false
+    integrity == 2 && ciphering == 2
 }
 
 // What is behind the first octet ciphered where it lies, and the code of the whole then: in one call where both algorithms are AES.
@@ -96,33 +52,17 @@ pub fn protect(
     ciphering: u8,
     integrity_key: Key,
     ciphering_key: Key,
-    count: u32,
-    bearer: u8,
-    direction: u8,
+    input: Input,
     octets: &mut [u8],
 ) -> [u8; 4]
-    ensures ciphered { octets.new ≡ take 1 octets.old ++ cipher_of ciphering ciphering_key count bearer direction (drop 1 octets.old) }
-    ensures code { result ≡ code_of integrity integrity_key count bearer direction octets.new }
+    ensures ciphered { octets.new ≡ take 1 octets.old ++ cipher_of ciphering ciphering_key input.count input.bearer input.direction (drop 1 octets.old) }
+    ensures code { result ≡ code_of integrity integrity_key input.count input.bearer input.direction octets.new }
 {
     if are_aes(integrity, ciphering) {
-        return aes::protect2(
-            integrity_key,
-            ciphering_key,
-            count,
-            bearer,
-            direction,
-            octets,
-        );
+        return aes::protect2(integrity_key, ciphering_key, input, octets);
     }
     if 1 < octets.len() {
-        cipher(
-            ciphering,
-            ciphering_key,
-            count,
-            bearer,
-            direction,
-            &mut octets[1..],
-        );
+        cipher(ciphering, ciphering_key, input, &mut octets[1..]);
     }
-    code(integrity, integrity_key, count, bearer, direction, octets)
+    code(integrity, integrity_key, input, octets)
 }

@@ -59,9 +59,9 @@ module _ (b j : ℕ) where
   bit-set-other k h = rw (bit-or, ⊎_elim bit-pow-below bit-pow-above h) (or_zero_r (bit b k))
 
 -- of the former highest COUNT's mark
-pub former-lt : (n m : ℕ) → 0 < m → former_highest n m < 2 ^ m
+pub former_lt : (n m : ℕ) → 0 < m → former_highest n m < 2 ^ m
 unfolding former_highest
-former-lt n m h = go (eqb n 0)
+former_lt n m h = go (eqb n 0)
   where
     go : (b : Bool) → cond b 0 (2 ^ (m - 1)) < 2 ^ m
     go true = pow_pos m

@@ -1,4 +1,5 @@
 -- The two candidates: when each is there, and which COUNT it is.
+use Rattle.std.specs.Prelude.{None, Some}
 use Prim.Native.Nat.{ℕ, ◌+◌, ◌-◌, ◌%◌, ◌^◌, ◌≤◌, ◌<◌}
 use mathlib.Core.Path.{◌≡◌, refl, sym, ap, ◌∙◌, subst}
 use mathlib.Core.Bool.{Bool, true, false, cond, ◌&&◌}
@@ -9,10 +10,9 @@ use borrow.Author.Tests.{ltb-true, leb-true, eqb-true, lt-ltb, le-ltb, le-leb, l
 use Rattle.count.specs.Rule.{exhausted, bit, distance, forward_of, open_at, late_of}
 use Rattle.count.specs.Facts.{Least, CandidatesHold}
 use Rattle.count.specs.declared.Record.{Record}
-use Rattle.count.specs.declared.Candidate.TheVariants.{Nothing, At}
 use Rattle.count.proofs.Distance.{le-or-lt, residue, distance-lt, distance-ends, distance-down, distance-under}
 
-pub never : {A : Type 0} {c : ℕ} → Nothing ≡ At c → A
+pub never : {A : Type 0} {c : ℕ} → None ≡ Some c → A
 never e = let z : ◌≡◌ {A = ℕ} 0 1 = cc in absurd (omega arith)
 
 pub clash : {A : Type 0} {b : Bool} → b ≡ true → b ≡ false → A
@@ -23,17 +23,17 @@ abbrev pub up : ℕ → Record → ℕ → ℕ
 up k r s = r.next + distance k r.next s
 
 module _ (k : ℕ) (wraps : Bool) (r : Record) (s : ℕ) where
-  pub forward-over : exhausted ≤ r.next → forward_of k wraps r s ≡ Nothing
+  pub forward-over : exhausted ≤ r.next → forward_of k wraps r s ≡ None
   unfolding forward_of
   forward-over h = simp (le-leb exhausted r.next h)
 
-  pub forward-up : up k r s < exhausted → forward_of k wraps r s ≡ At (up k r s)
+  pub forward-up : up k r s < exhausted → forward_of k wraps r s ≡ Some (up k r s)
   unfolding forward_of
   forward-up h =
       let l : r.next < exhausted = omega arith in
       simp (lt-leb exhausted r.next l, lt-ltb (up k r s) exhausted h)
 
-  pub forward-past : r.next < exhausted → exhausted ≤ up k r s → forward_of k wraps r s ≡ cond wraps (At (up k r s % exhausted)) Nothing
+  pub forward-past : r.next < exhausted → exhausted ≤ up k r s → forward_of k wraps r s ≡ cond wraps (Some (up k r s % exhausted)) None
   unfolding forward_of
   forward-past h l = simp (lt-leb exhausted r.next h, le-ltb (up k r s) exhausted l)
 
@@ -65,17 +65,17 @@ module _ (k : ℕ) (r : Record) (s : ℕ) where
       residue (2 ^ k) (up k r s) c (u.ends ∙ sym t.ends) (omega arith) (omega arith)
 
 module _ (k : ℕ) (wraps : Bool) (r : Record) (s c : ℕ) where
-  pub forward-is : c < exhausted → Reached k r s c → forward_of k wraps r s ≡ At c
-  forward-is count t = let e = reached-up k r s c t in forward-up k wraps r s (omega arith) ∙ ap At e
+  pub forward-is : c < exhausted → Reached k r s c → forward_of k wraps r s ≡ Some c
+  forward-is count t = let e = reached-up k r s c t in forward-up k wraps r s (omega arith) ∙ ap Some e
 
   -- it is one of these, or past the end and round
   abbrev Found : Type 0
   Found = (c < exhausted) × (Reached k r s c ⊎ ((wraps ≡ true) × (c ≡ up k r s % exhausted)))
 
-  pub forward-found : forward_of k wraps r s ≡ At c → Found
+  pub forward-found : forward_of k wraps r s ≡ Some c → Found
   forward-found e = first (le-or-lt exhausted r.next)
     where
-      round : (w : Bool) → wraps ≡ w → cond w (At (up k r s % exhausted)) Nothing ≡ At c → Found
+      round : (w : Bool) → wraps ≡ w → cond w (Some (up k r s % exhausted)) None ≡ Some c → Found
       round true q f = let z : up k r s % exhausted ≡ c = cc in (omega arith, inr (q, sym z))
       round false q f = never f
 
@@ -90,10 +90,10 @@ module _ (k : ℕ) (wraps : Bool) (r : Record) (s c : ℕ) where
       first (inr h) = second h (le-or-lt exhausted (up k r s))
 
 module _ (k : ℕ) (r : Record) (s : ℕ) where
-  pub forward-reached : (c : ℕ) → forward_of k false r s ≡ At c → (c < exhausted) × Reached k r s c
+  pub forward-reached : (c : ℕ) → forward_of k false r s ≡ Some c → (c < exhausted) × Reached k r s c
   forward-reached c e = let f = forward-found k false r s c e in (f.0, elim f.1 [ inl t ↦ t | inr t ↦ clash t.0 refl ])
 
-  forward-none : exhausted ≤ up k r s → forward_of k false r s ≡ Nothing
+  forward-none : exhausted ≤ up k r s → forward_of k false r s ≡ None
   forward-none h =
       elim (le-or-lt exhausted r.next) [ inl l ↦ forward-over k false r s l | inr l ↦ forward-past k false r s l h ]
 
@@ -136,36 +136,28 @@ module _ (size : ℕ) (r : Record) (d : ℕ) where
         eq-eqb (bit r.bits (d - 1)) 0 o.clear,
       )
 
--- the late candidate: there or not
+-- the late candidate, where it is there
 abbrev down_by : ℕ → Record → ℕ → ℕ
 down_by k r s = distance k s (r.next - 1)
 
 module _ (k size : ℕ) (r : Record) (s : ℕ) where
-  pub late-there : OpenAt size r (down_by k r s) → late_of k size r s ≡ At (r.next - 1 - down_by k r s)
+  pub late-there : OpenAt size r (down_by k r s) → late_of k size r s ≡ Some (r.next - 1 - down_by k r s)
   unfolding late_of
   late-there o = simp (open-at size r (down_by k r s) o)
 
-  pub late-not : (OpenAt size r (down_by k r s) → ⊥) → late_of k size r s ≡ Nothing
-  unfolding late_of
-  late-not shut = go (open_at size r (down_by k r s)) refl
-    where
-      go : (b : Bool) → open_at size r (down_by k r s) ≡ b → cond b (At (r.next - 1 - down_by k r s)) Nothing ≡ Nothing
-      go true e = absurd (shut (at_open size r (down_by k r s) e))
-      go false e = refl
-
 -- it is open, and ends like s
 module _ (k size : ℕ) (r : Record) (s c : ℕ) where
-  pub late_is : size < 2 ^ k → open_at size r (r.next - 1 - c) ≡ true → c % 2 ^ k ≡ s % 2 ^ k → late_of k size r s ≡ At c
+  pub late_is : size < 2 ^ k → open_at size r (r.next - 1 - c) ≡ true → c % 2 ^ k ≡ s % 2 ^ k → late_of k size r s ≡ Some c
   late_is small o ends =
       let a = at_open size r (r.next - 1 - c) o in
       let d : down_by k r s ≡ r.next - 1 - c = distance-under k s (r.next - 1) c (omega arith) (omega arith) ends in
-      late-there k size r s (subst (OpenAt size r) (sym d) a) ∙ ap At (omega arith)
+      late-there k size r s (subst (OpenAt size r) (sym d) a) ∙ ap Some (omega arith)
 
-  pub late-found : late_of k size r s ≡ At c → (open_at size r (r.next - 1 - c) ≡ true) × (c % 2 ^ k ≡ s % 2 ^ k)
+  pub late-found : late_of k size r s ≡ Some c → (open_at size r (r.next - 1 - c) ≡ true) × (c % 2 ^ k ≡ s % 2 ^ k)
   unfolding late_of
   late-found = go (open_at size r (down_by k r s)) refl
     where
-      go : (b : Bool) → open_at size r (down_by k r s) ≡ b → cond b (At (r.next - 1 - down_by k r s)) Nothing ≡ At c
+      go : (b : Bool) → open_at size r (down_by k r s) ≡ b → cond b (Some (r.next - 1 - down_by k r s)) None ≡ Some c
           → (open_at size r (r.next - 1 - c) ≡ true) × (c % 2 ^ k ≡ s % 2 ^ k)
       go true o e =
           let q : r.next - 1 - down_by k r s ≡ c = cc in
@@ -188,7 +180,7 @@ candidates k r s =
     }
 
 -- what the layers above use, for a last octet
-pub forward-at : (wraps : Bool) (r : Record) (s c : ℕ) → s < 256 → forward_of 8 wraps r s ≡ At c
+pub forward-at : (wraps : Bool) (r : Record) (s c : ℕ) → s < 256 → forward_of 8 wraps r s ≡ Some c
     → (c < exhausted) × (wraps ≡ false → r.next ≤ c) × (c % 256 ≡ s)
 forward-at wraps r s c h e =
     let f = forward-found 8 wraps r s c e in
@@ -197,7 +189,7 @@ forward-at wraps r s c h e =
       | inr t ↦ (f.0, (λ w. clash t.0 w), omega (arith, distance-ends 8 r.next s))
     ]
 
-pub late-at : (r : Record) (size s c : ℕ) → s < 256 → late_of 8 size r s ≡ At c → (c + 1 < r.next) × (r.next ≤ c + 1 + size) × (c % 256 ≡ s)
+pub late-at : (r : Record) (size s c : ℕ) → s < 256 → late_of 8 size r s ≡ Some c → (c + 1 < r.next) × (r.next ≤ c + 1 + size) × (c % 256 ≡ s)
 late-at r size s c h e =
     let t = late-found 8 size r s c e in
     let a = at_open size r (r.next - 1 - c) t.0 in

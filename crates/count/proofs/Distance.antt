@@ -7,6 +7,7 @@ use native.Mathlib.Decide.{dec_le}
 use native.Mathlib.Omega.{arith}
 use lib.Pow.{pow_pos}
 use Rattle.count.specs.Rule.{distance}
+use Rattle.count.proofs.Words.{low_of_low}
 
 pub le-or-lt : (a b : ℕ) → (a ≤ b) ⊎ (b < a)
 le-or-lt a b = elim (dec_le a b) [ yes h ↦ inl h | no h ↦ inr (omega arith) ]
@@ -51,3 +52,23 @@ module _ (k a b : ℕ) where
       let d = distance k a b in
       let f : (c + d) % m ≡ b % m = sym (mod-add-mod c m d) ∙ ap (λ (x : ℕ). (x + d) % m) e ∙ mod-add-mod a m d ∙ distance-ends in
       omega (arith, residue m (c + d) b f (omega (arith, distance-lt)) (omega arith))
+
+  -- what leads from a to a number that ends like b is that far
+  pub distance-is : (x : ℕ) → (a + x) % 2 ^ k ≡ b % 2 ^ k → x % 2 ^ k ≡ distance k a b
+  distance-is x e =
+      let f : (x % m + a) % m ≡ (distance k a b + a) % m =
+      mod-add-mod x m a ∙ ap (λ (y : ℕ). y % m) (omega arith) ∙ e ∙ sym distance-ends ∙ ap (λ (y : ℕ). y % m) (omega arith)
+      in
+      let l = mod-lt x (pow_pos k) in
+      omega (arith, residue m (x % m + a) (distance k a b + a) f (omega (arith, l, distance-lt)) (omega (arith, l, distance-lt)))
+
+  -- a word's difference that wraps
+  pub distance-wraps : k ≤ 32 → a ≤ 2 ^ 32 → (b + (2 ^ 32 - a)) % 2 ^ 32 % 2 ^ k ≡ distance k a b
+  distance-wraps small fits =
+      low_of_low (b + (2 ^ 32 - a)) small
+      ∙ distance-is (b + (2 ^ 32 - a)) (
+      ap (λ (y : ℕ). y % m) (omega arith)
+      ∙ sym (low_of_low (b + 2 ^ 32) small)
+      ∙ ap (λ (y : ℕ). y % m) (add-mod_right b (2 ^ 32))
+      ∙ low_of_low b small
+      )

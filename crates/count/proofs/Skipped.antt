@@ -1,4 +1,5 @@
 -- How far away a candidate is.
+use Rattle.std.specs.Prelude.{Some}
 use Prim.Native.Nat.{ℕ, ◌+◌, ◌-◌, ◌%◌, ◌^◌, ◌≤◌, ◌<◌}
 use mathlib.Core.Path.{◌≡◌, sym, ◌∙◌}
 use mathlib.Core.Bool.{Bool}
@@ -9,7 +10,6 @@ use borrow.Author.Tests.{le-leb, lt-leb}
 use Rattle.count.specs.Rule.{exhausted, distance, distance_of, forward_of}
 use Rattle.count.specs.Facts.{DistancesHold}
 use Rattle.count.specs.declared.Record.{Record}
-use Rattle.count.specs.declared.Candidate.TheVariants.{At}
 use Rattle.count.proofs.Distance.{le-or-lt, distance-lt}
 use Rattle.count.proofs.Candidates.{never, up, forward-over, forward-found, reached-up, at_open, late-found}
 
@@ -27,7 +27,7 @@ module _ (r : Record) (c : ℕ) where
   distance-round h l = simp (lt-leb r.next c h, lt-leb (r.next - 1 - c) 64 l)
 
 -- a record with a forward candidate is not exhausted
-pub forward-next : (k : ℕ) (wraps : Bool) (r : Record) (s c : ℕ) → forward_of k wraps r s ≡ At c → r.next < exhausted
+pub forward-next : (k : ℕ) (wraps : Bool) (r : Record) (s c : ℕ) → forward_of k wraps r s ≡ Some c → r.next < exhausted
 forward-next k wraps r s c e =
     elim (le-or-lt exhausted r.next) [ inl h ↦ never (sym (forward-over k wraps r s h) ∙ e) | inr h ↦ h ]
 

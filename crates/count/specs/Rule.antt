@@ -1,12 +1,23 @@
 -- The COUNT rule of document 01 ("Words", "The COUNT rule"; TS 24.501 4.4.3), over one record. A record has the next COUNT and 64 window bits: bit d - 1 is the
 -- window bit for d, and is set when the COUNT d below the highest used one, next - 1, is used.
-use Rattle.std.specs.Prelude.{ℕ, ◌+◌, ◌-◌, ◌*◌, ◌/◌, ◌%◌, ◌^◌, min, Bool, cond, ◌&&◌, ltb, leb, eqb}
+use Rattle.std.specs.Prelude.{ℕ, ◌+◌, ◌-◌, ◌*◌, ◌/◌, ◌%◌, ◌^◌, min, Bool, cond, ◌&&◌, ltb, leb, eqb, Option, None, Some, Result, Ok, Err}
 use Rattle.std.specs.Int.Bits.{bit_or}
+use Rattle.refusals.specs.declared.Refusal.{Refusal}
+use Rattle.refusals.specs.declared.Refusal.TheVariants as refusal
 use Rattle.count.specs.declared.Record.{Record}
-use Rattle.count.specs.declared.Candidate.{Candidate}
-use Rattle.count.specs.declared.Candidate.TheVariants.{Nothing, At}
-use Rattle.count.specs.declared.Opening.{Opening}
-use Rattle.count.specs.declared.Opening.TheVariants.{Late, Forward, None, Wrong}
+use Rattle.count.specs.declared.Taken.{Taken}
+use Rattle.count.specs.declared.Taken.TheVariants.{Late, Forward}
+use Rattle.count.specs.declared.Missed.{Missed}
+use Rattle.count.specs.declared.Missed.TheVariants.{NoCandidate, WrongCode}
+
+-- what an opening takes a message as: a late COUNT, a forward one, or none
+abbrev pub Opening : Type 0
+Opening = Result Taken Missed
+
+-- the refusal of a message that is taken as none: 6, 7
+abbrev pub refusal_of : Missed → Refusal
+refusal_of NoCandidate = refusal.NoCount
+refusal_of WrongCode = refusal.WrongCode
 
 -- "16,777,216 means exhausted": 2^24, the first number that is no COUNT
 abbrev pub exhausted : ℕ
@@ -23,12 +34,12 @@ distance k a b = (b + (2 ^ k - a % 2 ^ k)) % 2 ^ k
 -- "Forward candidate for last octet s: the least COUNT at or above next whose low 8 bits are s; none if it would exceed 16,777,215."
 -- k is the number of low bits known: 8 for a last octet, 5 for a SERVICE REQUEST, 0 for the next COUNT itself.
 -- wraps is null integrity: "forward candidates go round modulo 2^24", "a record already exhausted stays so".
-unfoldable pub forward_of : ℕ → Bool → Record → ℕ → Candidate
+unfoldable pub forward_of : ℕ → Bool → Record → ℕ → Option ℕ
 forward_of k wraps r s =
     let c = r.next + distance k r.next s in
-    cond (leb exhausted r.next) Nothing
-    (cond (ltb c exhausted) (At c)
-    (cond wraps (At (c % exhausted)) Nothing))
+    cond (leb exhausted r.next) None
+    (cond (ltb c exhausted) (Some c)
+    (cond wraps (Some (c % exhausted)) None))
 
 -- ".. if next > 0, d is from 1 to the size, d ≤ h, and the window bit for d is clear": the COUNT d below the highest is open late
 unfoldable pub open_at : ℕ → Record → ℕ → Bool
@@ -36,29 +47,29 @@ open_at size r d =
     ltb 0 r.next && (leb 1 d && (leb d size && (leb d (r.next - 1) && eqb (bit r.bits (d - 1)) 0)))
 
 -- "Late candidate: let h = next − 1 and d = (h − s) modulo 256. It is h − d if .."
-unfoldable pub late_of : ℕ → ℕ → Record → ℕ → Candidate
+unfoldable pub late_of : ℕ → ℕ → Record → ℕ → Option ℕ
 late_of k size r s =
     let h = r.next - 1 in
     let d = distance k s h in
-    cond (open_at size r d) (At (h - d)) Nothing
+    cond (open_at size r d) (Some (h - d)) None
 
 -- "Opening tries the late candidate's code, then the forward one's." fits says for which COUNTs the code received is right. Refusal 6 is "no forward
--- candidate and no late one accepted" (None), 7 "a forward candidate exists, code wrong for every candidate" (Wrong).
-abbrev pub try_forward : (ℕ → Bool) → Candidate → Opening
-try_forward fits Nothing = None
-try_forward fits (At c) = cond (fits c) (Forward c) Wrong
+-- candidate and no late one accepted" (NoCandidate), 7 "a forward candidate exists, code wrong for every candidate" (WrongCode).
+abbrev pub try_forward : (ℕ → Bool) → Option ℕ → Opening
+try_forward fits None = Err NoCandidate
+try_forward fits (Some c) = cond (fits c) (Ok (Forward c)) (Err WrongCode)
 
-abbrev pub try : (ℕ → Bool) → Candidate → Candidate → Opening
-try fits Nothing ahead = try_forward fits ahead
-try fits (At c) ahead = cond (fits c) (Late c) (try_forward fits ahead)
+abbrev pub try : (ℕ → Bool) → Option ℕ → Option ℕ → Opening
+try fits None ahead = try_forward fits ahead
+try fits (Some c) ahead = cond (fits c) (Ok (Late c)) (try_forward fits ahead)
 
 -- null integrity: "there is no late opening"
 unfoldable pub opening : ℕ → Bool → (ℕ → Bool) → ℕ → Record → ℕ → Opening
-opening k wraps fits size r s = try fits (cond wraps Nothing (late_of k size r s)) (forward_of k wraps r s)
+opening k wraps fits size r s = try fits (cond wraps None (late_of k size r s)) (forward_of k wraps r s)
 
 -- a call with no late half: every seal (k = 0: the next COUNT) and the containers
 unfoldable pub forward_only : ℕ → Bool → (ℕ → Bool) → Record → ℕ → Opening
-forward_only k wraps fits r s = try fits Nothing (forward_of k wraps r s)
+forward_only k wraps fits r s = try fits None (forward_of k wraps r s)
 
 -- Request 8: "for a forward candidate, how far above next (modulo 2^24 under null integrity); for a late one, how far below the highest used". A COUNT below
 -- next is late if it is at most 64 below the highest, the widest window; else it was reached by going round.

@@ -1,7 +1,6 @@
 -- Document 01, "Numbers on both sides": P1 to P12; request 4: P13 and P14.
-use Rattle.std.specs.Prelude.{ℕ, zero, suc, ◌-◌, ◌≡◌, false, cond, List, [], ◌∷◌}
+use Rattle.std.specs.Prelude.{ℕ, zero, suc, ◌-◌, ◌≡◌, false, cond, List, [], ◌∷◌, None, Some}
 use Rattle.count.specs.declared.Record.{Record}
-use Rattle.count.specs.declared.Candidate.TheVariants.{Nothing, At}
 use Rattle.count.specs.Rule.{forward_of, late_of, open_at}
 use Rattle.count.specs.Run.{State, Act, stay, uses, forward, late, round, resize, close, act}
 
@@ -31,14 +30,14 @@ abbrev pub ◌then◌ : State → Act → State
 
 infixl 20 ◌then◌
 pub record Table : Type 0 where
-  pub P1 : forward_of 8 false (next 0) 255 ≡ At 255
-  pub P2 : forward_of 8 false (next 6) 3 ≡ At 259
-  pub P3 : forward_of 8 false (next 300) 43 ≡ At 555
-  pub P4 : forward_of 8 false (next 16777215) 255 ≡ At 16777215
-  pub P5 : forward_of 8 false (next 16777215) 254 ≡ Nothing
+  pub P1 : forward_of 8 false (next 0) 255 ≡ Some 255
+  pub P2 : forward_of 8 false (next 6) 3 ≡ Some 259
+  pub P3 : forward_of 8 false (next 300) 43 ≡ Some 555
+  pub P4 : forward_of 8 false (next 16777215) 255 ≡ Some 16777215
+  pub P5 : forward_of 8 false (next 16777215) 254 ≡ None
   pub P6 : let s = fresh then resize 8 then uses forward 5 in (open_late s ≡ row 5 0) × (s.at.next ≡ 6)
   pub P7 : let s = fresh then resize 8 then uses forward 5 in
-      (late_of 8 8 s.at 3 ≡ At 3) × ((s then uses late 3).at.next ≡ 6) × (late_of 8 8 (s then uses late 3).at 3 ≡ Nothing)
+      (late_of 8 8 s.at 3 ≡ Some 3) × ((s then uses late 3).at.next ≡ 6) × (late_of 8 8 (s then uses late 3).at 3 ≡ None)
       × (open_late (s then uses late 3) ≡ 0 ∷ 1 ∷ 2 ∷ 4 ∷ [])
   pub P8 : open_late (fresh then resize 8 then uses forward 20) ≡ row 8 12
   pub P9 : open_late (fresh then resize 8 then uses forward 20 then resize 4 then resize 8) ≡ row 4 16

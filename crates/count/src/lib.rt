@@ -2,7 +2,9 @@
 #![tactic(auto)]
 
 ghost use Rattle.std.specs.Prelude.{◌≡◌, ◌+◌, ◌-◌, ◌*◌, ◌%◌, ◌^◌, ◌≤◌, ◌<◌, min};
-ghost use Rattle.count.specs.Rule.{exhausted, bit, distance, forward_of, late_of, distance_of, former_highest, use_forward, use_round, use_late, resize_of};
+ghost use Rattle.count.specs.Rule.{exhausted, bit, distance, forward_of, late_of, distance_of, former_highest, use_forward, use_round, use_late, resize_of, refusal_of};
+
+use refusals::Refusal;
 
 // 2^24, the first number that is no COUNT: a next COUNT of this means that all are used.
 pub const EXHAUSTED: u32 = 16777216;
@@ -10,35 +12,37 @@ pub const EXHAUSTED: u32 = 16777216;
 // The next COUNT of one direction of one connection (EXHAUSTED: all are used), and the window bits: bit k is set when the COUNT k + 1 below the
 // highest used one, next - 1, is used.
 #[repr(C)]
-#[derive(Clone, Copy)]
+#[derive(Clone, Copy, Debug, PartialEq, Eq)]
 pub struct Record {
     pub next: u32,
     pub bits: u64,
 }
 
-// The COUNT that a message may have, if there is one.
-#[derive(Clone, Copy)]
-pub enum Candidate {
-    Nothing,
-    At(u32),
-}
-
-// What an opening takes a message as: a late COUNT, a forward one, or none, for want of a forward candidate (refusal 6) or because the code is wrong for
-// every candidate (refusal 7).
-#[derive(Clone, Copy)]
-pub enum Opening {
+// The COUNT that an opening takes a message as.
+#[derive(Clone, Copy, Debug, PartialEq, Eq)]
+pub enum Taken {
     Late(u32),
     Forward(u32),
-    None,
-    Wrong,
 }
 
-// How many numbers differ in their k low bits.
-fn reach(k: u8) -> u32
-    requires { k ≤ 8 }
-    ensures { (result ≡ 2 ^ k) × (0 < result) × (result ≤ 256) }
-{
-    1 << k
+// Why it takes a message as none.
+#[derive(Clone, Copy, Debug, PartialEq, Eq)]
+pub enum Missed {
+    // refusal 6
+    NoCandidate,
+    // refusal 7: the code is wrong for every candidate
+    WrongCode,
+}
+
+impl From<Missed> for Refusal {
+    ghost from_gives = { λ missed refusal. refusal ≡ refusal_of missed };
+
+    fn from(missed: Missed) -> Refusal {
+        match missed {
+            Missed::NoCandidate => Refusal::NoCount,
+            Missed::WrongCode => Refusal::WrongCode,
+        }
+    }
 }
 
 // How far above a the least number lies that ends in b's k low bits.
@@ -46,33 +50,36 @@ fn distance_up(k: u8, a: u32, b: u32) -> u32
     requires { k ≤ 8 }
     ensures { (result ≡ distance k a b) × (result < 256) }
 {
-    let m = reach(k);
-    (b % m + (m - a % m)) % m
+    b.wrapping_sub(a) % (1 << k)
 }
 
 // Bit k, clear past the last.
+#[tactic(auto, unfolding(crate::specs::Rule::bit), using(crate::proofs::Words::none_past))]
 fn bit_at(bits: u64, k: u32) -> u64
     ensures { result ≡ bit bits k }
 {
-    if k < 64 { (bits >> k) % 2 } else { 0 }
+    bits.checked_shr(k).unwrap_or(0) % 2
 }
 
 // The bits so many places up, those past the last dropped.
+#[tactic(auto, using(crate::proofs::Words::moved_out))]
 fn moved_up(bits: u64, places: u32) -> u64
     ensures { result ≡ bits * 2 ^ places % 2 ^ 64 }
 {
-    if places < 64 { bits << places } else { 0 }
+    bits.checked_shl(places).unwrap_or(0)
 }
 
 // The size low bits set.
+#[tactic(auto, using(crate::proofs::Words::ones_down))]
 fn low_bits(size: u8) -> u64
     requires { size ≤ 64 }
     ensures { result ≡ 2 ^ size - 1 }
 {
-    if size < 64 { (1 << size) - 1 } else { u64::MAX }
+    u64::MAX.checked_shr(64 - size as u32).unwrap_or(0)
 }
 
 // The bit of the former highest COUNT after m places up, if there was one.
+#[tactic(auto, unfolding(crate::specs::Rule::former_highest))]
 fn former_highest(next: u32, m: u32) -> u64
     requires { 0 < m }
     ensures { result ≡ former_highest next m % 2 ^ 64 }
@@ -80,58 +87,36 @@ fn former_highest(next: u32, m: u32) -> u64
     if next == 0 { 0 } else { moved_up(1, m - 1) }
 }
 
-fn lesser(a: u8, b: u8) -> u8
-    ensures { result ≡ min a b }
-{
-    if a < b { a } else { b }
-}
-
 impl Record {
     // The least COUNT from next on whose k low bits are those of s; with null integrity (wraps) it goes round.
-    pub fn forward(self, k: u8, wraps: bool, s: u8) -> Candidate
+    #[tactic(auto, unfolding(crate::specs::Rule::forward_of))]
+    pub fn forward(self, k: u8, wraps: bool, s: u8) -> Option<u32>
         requires { k ≤ 8 }
         ensures { result ≡ forward_of k wraps self s }
     {
-        let next = self.next;
-        if EXHAUSTED <= next {
-            return Candidate::Nothing;
+        if EXHAUSTED <= self.next {
+            return None;
         }
-        let c = next + distance_up(k, next, s as u32);
-        if c < EXHAUSTED {
-            return Candidate::At(c);
-        }
-        if wraps {
-            return Candidate::At(c % EXHAUSTED);
-        }
-        Candidate::Nothing
+        let c = self.next + distance_up(k, self.next, s as u32);
+        (wraps || c < EXHAUSTED).then_some(c % EXHAUSTED)
     }
 
     // The COUNT below the highest whose last octet is s, if it is open late.
-    pub fn late(self, size: u8, s: u8) -> Candidate
+    #[tactic(auto, unfolding(crate::specs::Rule::late_of, crate::specs::Rule::open_at))]
+    pub fn late(self, size: u8, s: u8) -> Option<u32>
         ensures { result ≡ late_of 8 size self s }
     {
-        let next = self.next;
-        if next == 0 {
-            return Candidate::Nothing;
-        }
-        let h = next - 1;
+        let h = self.next.checked_sub(1)?;
         let d = distance_up(8, s as u32, h);
-        if d < 1 {
-            return Candidate::Nothing;
+        if 1 <= d && d <= size as u32 && d <= h && bit_at(self.bits, d - 1) == 0 {
+            Some(h - d)
+        } else {
+            None
         }
-        if (size as u32) < d {
-            return Candidate::Nothing;
-        }
-        if h < d {
-            return Candidate::Nothing;
-        }
-        if bit_at(self.bits, d - 1) == 0 {
-            return Candidate::At(h - d);
-        }
-        Candidate::Nothing
     }
 
     // How far a forward c lies above next, or a late one below the highest used.
+    #[tactic(auto, unfolding(crate::specs::Rule::distance_of))]
     pub fn distance_to(self, c: u32) -> u32
         requires { self.next ≤ c + exhausted }
         ensures { result ≡ distance_of self c }
@@ -142,20 +127,21 @@ impl Record {
         }
         let below = next - 1 - c;
         if below <= 64 {
-            return below;
+            below
+        } else {
+            EXHAUSTED - (next - c)
         }
-        EXHAUSTED - (next - c)
     }
 
     // Forward use of c.
+    #[tactic(auto, unfolding(crate::specs::Rule::use_forward), using(crate::proofs::Words::or_moved, crate::proofs::Bits::former_lt))]
     pub fn advance(self, size: u8, c: u32) -> Record
         requires { (self.next ≤ c) × (c < exhausted) × (size ≤ 64) }
         ensures { result ≡ use_forward size self c }
     {
-        let next = self.next;
-        let m = c + 1 - next;
+        let m = c + 1 - self.next;
         let kept = moved_up(self.bits, m);
-        let highest = former_highest(next, m);
+        let highest = former_highest(self.next, m);
         Record {
             next: c + 1,
             bits: (kept | highest) & low_bits(size),
@@ -163,38 +149,40 @@ impl Record {
     }
 
     // Use of c under null integrity.
+    #[tactic(auto, unfolding(crate::specs::Rule::use_round))]
     pub fn go_round(self, c: u32) -> Record
         requires { c < exhausted }
         ensures { result ≡ use_round self c }
     {
         Record {
             next: (c + 1) % EXHAUSTED,
-            bits: self.bits,
+            ..self
         }
     }
 
     // Late use of c.
+    #[tactic(auto, unfolding(crate::specs::Rule::use_late))]
     pub fn use_late(self, c: u32) -> Record
         requires { (c + 1 < self.next) × (self.next ≤ c + 65) }
         ensures { result ≡ use_late self c }
     {
-        let next = self.next;
-        let k = next - (c + 2);
+        let k = self.next - (c + 2);
         Record {
-            next,
             bits: self.bits | (1 << k),
+            ..self
         }
     }
 
     // The window's size was old and becomes new.
+    #[tactic(auto, unfolding(crate::specs::Rule::resize_of), using(crate::proofs::Words::ones_le, crate::proofs::Words::or_sized))]
     pub fn resize(self, old: u8, new: u8) -> Record
         requires { (old ≤ 64) × (new ≤ 64) }
         ensures { result ≡ resize_of old new self }
     {
-        let known = low_bits(lesser(old, new));
+        let known = low_bits(old.min(new));
         Record {
-            next: self.next,
             bits: (self.bits & known) | (low_bits(new) - known),
+            ..self
         }
     }
 }

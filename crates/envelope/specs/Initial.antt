@@ -1,11 +1,11 @@
 -- Initial messages under a context's keys (document 02, item 9; TS 24.501 4.4.6): what goes out for one, and what is inside one that came in.
-use Rattle.std.specs.Prelude.{ℕ, Bool, true, false, List, [], length}
+use Rattle.std.specs.Prelude.{ℕ, Bool, true, false, List, [], length, Result, Ok, Err}
 use Rattle.nas_core.specs.declared.Core.{Core}
 use Rattle.nas_core.specs.Keyed.{payload}
 use Rattle.initial.specs.Outer.{outer_of}
 use Rattle.initial.specs.Inside.{Hidden, refused, handed, hidden_of}
-use Rattle.envelope.specs.declared.Inside.{Inside}
-use Rattle.envelope.specs.declared.Inside.TheVariants.{Refused, Handed}
+use Rattle.refusals.specs.declared.Refusal.{Refusal}
+use Rattle.refusals.specs.declared.Refusal.TheVariants.{Container}
 use Rattle.envelope.specs.Envelope.{envelope}
 
 -- the whole message w as it goes out: the value of its container is w ciphered, uplink, with the COUNT of the message around it
@@ -30,7 +30,7 @@ abbrev pub is_refused : Hidden → Bool
 is_refused refused = true
 is_refused (handed q) = false
 
--- what is answered of it: how many octets it has
-abbrev pub told : Hidden → Inside
-told refused = Refused
-told (handed q) = Handed (length q)
+-- what is answered of it: 18, or how many octets it has
+abbrev pub told : Hidden → Result ℕ Refusal
+told refused = Err Container
+told (handed q) = Ok (length q)

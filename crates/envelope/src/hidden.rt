@@ -7,11 +7,10 @@ ghost use Rattle.nas_core.specs.Keyed.{payload};
 ghost use Rattle.nas_core.specs.Leaves.{over};
 ghost use Rattle.envelope.specs.Initial.{beside_of, beside, told};
 
-use crate::Inside;
-use initial::{Span, Unwalkable};
+use crate::outgoing::uplink;
+use aes::Input;
 use nas_core::Core;
-
-const UPLINK: u8 = 0;
+use refusals::Refusal;
 
 // Whether a container's value deciphers to a message of the outer type. Three octets decide, so that nothing is written before it is known.
 fn has_type(core: Core, count: u32, bearer: u8, outer: &[u8], value: &[u8]) -> bool
@@ -19,10 +18,11 @@ fn has_type(core: Core, count: u32, bearer: u8, outer: &[u8], value: &[u8]) -> b
     ensures { result ≡ is_inside outer.now (payload core true count bearer 0 value.now) }
 {
     let mut front = [0; 3];
-    core.fill(true, count, bearer, UPLINK, &value[..3], &mut front);
+    core.fill(true, uplink(count, bearer), &value[..3], &mut front);
     initial::is_inside(outer, &front)
 }
 
+// 18, or how many octets the container's message has.
 fn take_inside(
     core: Core,
     count: u32,
@@ -30,53 +30,54 @@ fn take_inside(
     outer: &[u8],
     value: &[u8],
     second: &mut [u8],
-) -> Inside
+) -> Result<usize, Refusal>
     requires { (is_initial outer.now ≡ true) × (length value.now ≤ length second.old) }
     ensures answer { result ≡ told (of_type outer.now (payload core true count bearer 0 value.now)) }
     ensures wrote { second.new ≡ over (beside (of_type outer.now (payload core true count bearer 0 value.now))) second.old }
 {
-    if value.len() < 3 {
-        return Inside::Refused;
-    }
-    if has_type(core, count, bearer, outer, value) {
+    if 3 <= value.len() && has_type(core, count, bearer, outer, value) {
         let n = value.len();
-        core.fill(true, count, bearer, UPLINK, value, &mut second[..n]);
-        return Inside::Handed(n);
+        core.fill(true, uplink(count, bearer), value, &mut second[..n]);
+        return Ok(n);
     }
-    Inside::Refused
+    Err(Refusal::Container)
 }
 
-fn read_inside(core: Core, count: u32, bearer: u8, plain: &[u8], second: &mut [u8]) -> Inside
+fn read_inside(
+    core: Core,
+    count: u32,
+    bearer: u8,
+    plain: &[u8],
+    second: &mut [u8],
+) -> Result<usize, Refusal>
     requires { (is_initial plain.now ≡ true) × (length plain.now ≤ length second.old) }
     ensures answer { result ≡ told (hidden_in (λ v. payload core true count bearer 0 v) plain.now (container_of plain.now)) }
     ensures wrote { second.new ≡ over (beside (hidden_in (λ v. payload core true count bearer 0 v) plain.now (container_of plain.now))) second.old }
 {
     match initial::find_container(plain) {
-        Err(Unwalkable) => Inside::Refused,
-        Ok(None) => Inside::Handed(0),
-        Ok(Some(Span { start, length })) => {
-            let value = &plain[start..start + length];
-            take_inside(core, count, bearer, plain, value, second)
+        Err(_) => Err(Refusal::Container),
+        Ok(None) => Ok(0),
+        Ok(Some(span)) => {
+            let end = span.start + span.length;
+            take_inside(core, count, bearer, plain, &plain[span.start..end], second)
         }
     }
 }
 
-// The container's message of a plaintext to the front of the second output, where it is asked for.
+// The container's message of a plaintext to the front of the second output, where it is asked for: 18, or how many octets it has.
 pub fn read_beside(
     core: Core,
     header_type: u8,
-    count: u32,
-    bearer: u8,
-    direction: u8,
+    input: Input,
     plain: &[u8],
     second: &mut [u8],
-) -> Inside
-    requires { header_type ≡ 1 → direction ≡ 0 → length plain.now ≤ length second.old }
-    ensures answer { result ≡ told (beside_of core header_type count bearer direction plain.now) }
-    ensures wrote { second.new ≡ over (beside (beside_of core header_type count bearer direction plain.now)) second.old }
+) -> Result<usize, Refusal>
+    requires { header_type ≡ 1 → input.direction ≡ 0 → length plain.now ≤ length second.old }
+    ensures answer { result ≡ told (beside_of core header_type input.count input.bearer input.direction plain.now) }
+    ensures wrote { second.new ≡ over (beside (beside_of core header_type input.count input.bearer input.direction plain.now)) second.old }
 {
-    if initial::is_asked(header_type, direction, plain) {
-        return read_inside(core, count, bearer, plain, second);
+    if initial::is_asked(header_type, input.direction, plain) {
+        return read_inside(core, input.count, input.bearer, plain, second);
     }
-    Inside::Handed(0)
+    Ok(0)
 }

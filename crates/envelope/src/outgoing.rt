@@ -5,12 +5,24 @@ ghost use Rattle.initial.specs.Outer.{outer_length};
 ghost use Rattle.nas_core.specs.Leaves.{over};
 ghost use Rattle.envelope.specs.Initial.{outgoing, initial_envelope};
 
+use aes::Input;
 use nas_core::Core;
 
 // An initial message is sent uplink, under header type 1.
 const UPLINK: u8 = 0;
 
 const INTEGRITY: u8 = 1;
+
+// An initial message and its container go uplink with one COUNT.
+pub fn uplink(count: u32, bearer: u8) -> Input
+    ensures { result ≡ record { count = count; bearer = bearer; direction = 0 } }
+{
+    Input {
+        count,
+        bearer,
+        direction: UPLINK,
+    }
+}
 
 // The mandatory part and the container with the whole message ciphered, or the message itself where it hides nothing.
 fn put_outgoing(core: Core, count: u32, bearer: u8, whole: &[u8], out: &mut [u8])
@@ -19,11 +31,11 @@ fn put_outgoing(core: Core, count: u32, bearer: u8, whole: &[u8], out: &mut [u8]
 {
     if initial::hides(whole) {
         let start = initial::mandatory_length(whole) + 3;
-        core.fill(true, count, bearer, UPLINK, whole, &mut out[start..]);
+        core.fill(true, uplink(count, bearer), whole, &mut out[start..]);
         initial::put_front(whole, &mut out[..start]);
         return;
     }
-    nas_core::copy(whole, out);
+    out.copy_from_slice(whole);
 }
 
 // An initial message to the front of the output.
@@ -33,5 +45,6 @@ pub fn put_initial(core: Core, count: u32, bearer: u8, whole: &[u8], out: &mut [
 {
     let end = crate::HEADER + initial::outer_length(whole);
     put_outgoing(core, count, bearer, whole, &mut out[crate::HEADER..end]);
-    crate::wrap(core, INTEGRITY, count, bearer, UPLINK, &mut out[..end]);
+    let input = uplink(count, bearer);
+    crate::wrap(core, INTEGRITY, input, &mut out[..end]);
 }

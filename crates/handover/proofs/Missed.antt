@@ -6,8 +6,10 @@ use mathlib.Core.List.{List}
 use lib.ListN.{length}
 use lib.Dec.{eqb}
 use native.Mathlib.Omega.{arith}
-use Rattle.count.specs.declared.Opening.{Opening}
-use Rattle.count.specs.declared.Opening.TheVariants as opening
+use Rattle.count.specs.Rule.{Opening}
+use Rattle.std.specs.Prelude.{Ok, Err}
+use Rattle.count.specs.declared.Taken.TheVariants.{Late, Forward}
+use Rattle.count.specs.declared.Missed.TheVariants.{NoCandidate, WrongCode}
 use Rattle.count.specs.Rule.{distance_of}
 use Rattle.initial.specs.Inside.{Hidden}
 use Rattle.envelope.specs.Initial.{beside_of, beside}
@@ -17,8 +19,7 @@ use Rattle.nas_core.specs.Verify.{verify_of}
 use Rattle.nas_5gs.specs.declared.Context.{Context}
 use Rattle.nas_5gs.specs.declared.Direction.{Direction}
 use Rattle.nas_5gs.specs.declared.Connection.{Connection}
-use Rattle.nas_5gs.specs.declared.OpenAnswer.{OpenAnswer}
-use Rattle.nas_5gs.specs.declared.OpenAnswer.TheVariants.{Refused, Accepted, Content}
+use Rattle.nas_5gs.specs.OpenAnswer.{OpenAnswer, Refused, Accepted, Content}
 use Rattle.nas_5gs.specs.Places.{direction_no, bearer_no, place_of, record_at, used, used_late}
 use Rattle.nas_5gs.specs.Leaves.{LeavesTwo, leaves_two, over, received}
 use Rattle.nas_5gs.specs.Open.{type_of, open_refusal, room_for, inside_number, handed, plain_of, opened, open_of}
@@ -48,12 +49,12 @@ module _ (x : Context) (out second : List ℕ) where
       → Keeps (received x p (λ n. leaves_two (Refused n) x out second)
       (λ c next. handed (type_of m) d (plain_of x.core c b d m) (beside_of x.core (type_of m) c b d (plain_of x.core c b d m)) out second c (distance_of (record_at x p) c) next)
       o)
-  receives p b d m opening.None = λ e. refl
-  receives p b d m opening.Wrong = λ e. refl
-  receives p b d m (opening.Late c) =
+  receives p b d m (Err NoCandidate) = λ e. refl
+  receives p b d m (Err WrongCode) = λ e. refl
+  receives p b d m (Ok (Late c)) =
       let q = plain_of x.core c b d m in
       hands (type_of m) d q (beside_of x.core (type_of m) c b d q) c (distance_of (record_at x p) c) (used_late x p c)
-  receives p b d m (opening.Forward c) =
+  receives p b d m (Ok (Forward c)) =
       let q = plain_of x.core c b d m in
       hands (type_of m) d q (beside_of x.core (type_of m) c b d q) c (distance_of (record_at x p) c) (used x p c)
 

@@ -6,8 +6,7 @@ use Rattle.nas_5gs.specs.declared.Context.{Context}
 use Rattle.nas_5gs.specs.declared.Direction.{Direction}
 use Rattle.nas_5gs.specs.declared.Connection.{Connection}
 use Rattle.nas_5gs.specs.declared.Connection.TheVariants.{ThreeGpp, Non3Gpp}
-use Rattle.nas_5gs.specs.declared.OpenAnswer.{OpenAnswer}
-use Rattle.nas_5gs.specs.declared.OpenAnswer.TheVariants.{Refused, Accepted, Content}
+use Rattle.nas_5gs.specs.OpenAnswer.{OpenAnswer, Refused, Accepted, Content}
 use Rattle.nas_5gs.specs.Leaves.{LeavesTwo, leaves_two}
 use Rattle.nas_5gs.specs.Open.{open_of}
 

@@ -1,12 +1,12 @@
 -- The answers of the EPS context's calls as one value.
 use Rattle.std.specs.Prelude.{ℕ, List}
 use Rattle.nas_eps.specs.Leaves.{Leaves, leaves}
-use Rattle.nas_eps.specs.declared.ChangeAnswer.{ChangeAnswer}
-use Rattle.nas_eps.specs.declared.ChangeAnswer.TheVariants as change
-use Rattle.nas_eps.specs.declared.UseAnswer.{UseAnswer}
-use Rattle.nas_eps.specs.declared.UseAnswer.TheVariants as use'
-use Rattle.nas_eps.specs.declared.OpenAnswer.{OpenAnswer}
-use Rattle.nas_eps.specs.declared.OpenAnswer.TheVariants as open'
+use Rattle.nas_core.specs.ChangeAnswer.{ChangeAnswer}
+use Rattle.nas_core.specs.ChangeAnswer as change
+use Rattle.nas_core.specs.UseAnswer.{UseAnswer}
+use Rattle.nas_core.specs.UseAnswer as use'
+use Rattle.nas_eps.specs.OpenAnswer.{OpenAnswer}
+use Rattle.nas_eps.specs.OpenAnswer as open'
 use Rattle.hex_eps.specs.declared.Answer.{Answer}
 use Rattle.hex_eps.specs.declared.Answer.TheVariants.{Done, Refused, Used, Opened, Request}
 

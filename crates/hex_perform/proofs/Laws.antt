@@ -9,7 +9,7 @@ use lib.Seq.{take_all, paste}
 use Rattle.nas_5gs.specs.Leaves.{Leaves, leaves, LeavesTwo, leaves_two}
 use Rattle.nas_5gs.specs.declared.Context.{Context}
 use Rattle.nas_5gs.specs.declared.Connection.{Connection}
-use Rattle.nas_5gs.specs.declared.OpenAnswer.{OpenAnswer}
+use Rattle.nas_5gs.specs.OpenAnswer.{OpenAnswer}
 use Rattle.nas_5gs.specs.Places.{bearer_no}
 use Rattle.handover.specs.Across.{LeavesAcross, leaves_across}
 use Rattle.hex_lines.proofs.Laws as hex

@@ -3,18 +3,18 @@ use Rattle.std.specs.Prelude.{ℕ, List}
 use Rattle.nas_5gs.specs.Places.{bearer_no}
 use Rattle.nas_5gs.specs.Leaves.{Leaves, leaves, LeavesTwo, leaves_two}
 use Rattle.handover.specs.Across.{LeavesAcross, leaves_across}
-use Rattle.nas_5gs.specs.declared.ChangeAnswer.{ChangeAnswer}
-use Rattle.nas_5gs.specs.declared.ChangeAnswer.TheVariants as change
-use Rattle.nas_5gs.specs.declared.UseAnswer.{UseAnswer}
-use Rattle.nas_5gs.specs.declared.UseAnswer.TheVariants as use'
-use Rattle.nas_5gs.specs.declared.OctetAnswer.{OctetAnswer}
-use Rattle.nas_5gs.specs.declared.OctetAnswer.TheVariants as octet
-use Rattle.nas_5gs.specs.declared.OpenAnswer.{OpenAnswer}
-use Rattle.nas_5gs.specs.declared.OpenAnswer.TheVariants as open'
-use Rattle.nas_5gs.specs.declared.EpsOpenAnswer.{EpsOpenAnswer}
-use Rattle.nas_5gs.specs.declared.EpsOpenAnswer.TheVariants as eps
-use Rattle.nas_5gs.specs.declared.VerifyAnswer.{VerifyAnswer}
-use Rattle.nas_5gs.specs.declared.VerifyAnswer.TheVariants as verify
+use Rattle.nas_core.specs.ChangeAnswer.{ChangeAnswer}
+use Rattle.nas_core.specs.ChangeAnswer as change
+use Rattle.nas_core.specs.UseAnswer.{UseAnswer}
+use Rattle.nas_core.specs.UseAnswer as use'
+use Rattle.nas_5gs.specs.OctetAnswer.{OctetAnswer}
+use Rattle.nas_5gs.specs.OctetAnswer as octet
+use Rattle.nas_5gs.specs.OpenAnswer.{OpenAnswer}
+use Rattle.nas_5gs.specs.OpenAnswer as open'
+use Rattle.nas_5gs.specs.EpsOpenAnswer.{EpsOpenAnswer}
+use Rattle.nas_5gs.specs.EpsOpenAnswer as eps
+use Rattle.nas_5gs.specs.VerifyAnswer.{VerifyAnswer}
+use Rattle.nas_5gs.specs.VerifyAnswer as verify
 use Rattle.hex_perform.specs.declared.Answer.{Answer}
 use Rattle.hex_perform.specs.declared.Answer.TheVariants.{Done, Refused, Used, Made, Opened, Content, EpsContent, Received, OpenedOn, ContentOn}
 

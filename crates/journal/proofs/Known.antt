@@ -1,5 +1,5 @@
--- Kinds that are unknown, lengths that are too long, and octets that are too few.
-use mathlib.Core.Path.{◌≡◌, refl, ap, sym}
+-- Kinds that are unknown, and what a record that stands there says of the octets.
+use mathlib.Core.Path.{◌≡◌, refl, ap}
 use mathlib.Core.Bool.{Bool, true, false, ◌&&◌}
 use mathlib.Core.List.{List}
 use mathlib.Core.Logic.{◌⊎◌, inl, inr, ⊎_elim}
@@ -7,8 +7,7 @@ use Prim.Native.Nat.{ℕ, zero, suc, ◌+◌, ◌<◌, ◌≤◌}
 use native.Mathlib.Nat.{eq-or-lt_of_le}
 use native.Mathlib.Omega.{arith}
 use lib.ListN.{length, get_or, get_or-eq_default}
-use lib.Dec.{leb, eqb}
-use borrow.Author.Tests.{le-leb, lt-leb, eq-eqb, eqb-true, leb-true}
+use borrow.Author.Tests.{le-leb, eq-eqb, eqb-true, leb-true}
 use Rattle.journal.specs.Records.{Lengths, none, kinds, allows, is_allowed, most, size_at, well_formed}
 
 -- what a match says of a number that is none of 1 to n
@@ -32,25 +31,6 @@ unknown t n o =
     (λ (e : t ≡ 0). simp e)
     (λ (h : 14 < t). ap (λ (x : Lengths). allows x n) (get_or-eq_default kinds none h))
     (other 14 t o)
-
-last : (a : Bool) → a && false ≡ false
-last true = refl
-last false = refl
-
--- the last test alone
-pub too_few : (l : List ℕ) → length l < 5 + size_at l → well_formed l ≡ false
-unfolding well_formed
-too_few l h = simp (lt-leb _ _ h) (last (eqb (get_or l 0 0) 0x4E && eqb (get_or l 1 0) 0x53 && is_allowed (get_or l 2 0) (size_at l) && leb (size_at l) most))
-
-pub and-true : (a : Bool) → a && true ≡ a
-and-true true = refl
-and-true false = refl
-
--- the tests behind the mark
-pub marked : (l : List ℕ) (n : ℕ) → get_or l 0 0 ≡ 0x4E → get_or l 1 0 ≡ 0x53 → n ≡ size_at l
-    → well_formed l ≡ is_allowed (get_or l 2 0) n && leb n most && leb (5 + n) (length l)
-unfolding well_formed
-marked l n a b e = simp (eq-eqb _ _ a, eq-eqb _ _ b, sym e)
 
 -- either way
 pub by : {P : Type 0} (b : Bool) → (b ≡ true → P) → (b ≡ false → P) → P

@@ -1,5 +1,4 @@
 pub mod Known
-pub mod Put
 pub mod Reading
 pub mod Counting
 pub mod Back

@@ -1,9 +1,17 @@
 -- What writing one record leaves: the answer and the lent output.
-use Rattle.std.specs.Prelude.{ℕ, ◌+◌, not, List, [], ◌∷◌, ◌++◌, ltb, length, drop}
+use Rattle.std.specs.Prelude.{ℕ, ◌+◌, not, List, [], ◌∷◌, ◌++◌, Result, Ok, Err, ltb, length, drop}
+use Rattle.refusals.specs.declared.Refusal.{Refusal}
+use Rattle.refusals.specs.Numbers.{number_of}
 use Rattle.refusals.specs.Order.{◌when◌, first, refused_or}
-use Rattle.journal.specs.declared.Written.{Written}
-use Rattle.journal.specs.declared.Written.TheVariants.{Refused, Octets}
 use Rattle.journal.specs.Records.{is_allowed, most, head, record_of}
+
+pub data Written : Type 0 where
+  Refused : ℕ → Written
+  Octets : ℕ → Written
+
+abbrev pub told_written : Result ℕ Refusal → Written
+told_written (Ok n) = Octets n
+told_written (Err r) = Refused (number_of r)
 
 pub data Writes : Type 0 where
   writes : Written → List ℕ → Writes

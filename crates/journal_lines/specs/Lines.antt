@@ -1,17 +1,14 @@
 -- A hex line as a call of a journal, and a call of a journal as a hex line on slot 0 (document 02, item 10, "The programs").
-use Rattle.std.specs.Prelude.{ℕ, ◌+◌, ◌/◌, ◌%◌, min, false, cond, List, ◌++◌, eqb, length}
-use Rattle.hex_parse.specs.declared.Line.{Line}
+use Rattle.std.specs.Prelude.{ℕ, ◌+◌, ◌/◌, ◌%◌, min, cond, List, ◌++◌, Option, Some, None, eqb, length}
 use Rattle.hex_parse.specs.declared.Call.{Call}
 use Rattle.hex_parse.specs.declared.Call.TheVariants as hex
-use Rattle.hex_parse.specs.Lines.{no_key, no4}
-use Rattle.journal.specs.declared.Written.TheVariants.{Refused}
-use Rattle.journal.specs.Write.{Writes, writes, write_of}
+use Rattle.hex_parse.specs.Parsed.{line_with, with, headed_two}
+use Rattle.hex_parse.specs.Lines.{Line, no4}
+use Rattle.journal.specs.Write.{Refused, Writes, writes, write_of}
 use Rattle.journal_calls.specs.declared.Call.{Call as Entry}
 use Rattle.journal_calls.specs.declared.Call.TheVariants as journal
 use Rattle.journal_calls.specs.Fields.{key_at, counts_in, counts_of}
 use Rattle.journal_calls.specs.Calls.{kind_of, front_of, call_of, rest_of}
-use Rattle.journal_lines.specs.declared.Behind.{Behind}
-use Rattle.journal_lines.specs.declared.Behind.TheVariants.{Keys, State, Octets}
 
 -- a line's direction is 0 or 1, its connection 1 or 2
 unfoldable pub place_of : ℕ → ℕ → ℕ
@@ -45,57 +42,36 @@ entry_of (hex.SealIn t d k) n m = journal.Unknown
 entry_of (hex.OpenIn d k) n m = journal.Unknown
 
 -- what stands behind the front of its bytes: keys, keys and next COUNTs, or the line's octets o
-abbrev pub behind_of : Call → Behind
-behind_of hex.Bad = Octets
-behind_of (hex.New i c) = Keys
-behind_of (hex.Restore i c) = State
-behind_of (hex.Reselect i c) = Keys
-behind_of (hex.Window w) = Octets
-behind_of (hex.Seal t d k) = Octets
-behind_of (hex.Opaque t d k) = Octets
-behind_of (hex.Initial k) = Octets
-behind_of (hex.Open d k) = Octets
-behind_of hex.EpsSeal = Octets
-behind_of hex.EpsOpen = Octets
-behind_of hex.N1ToS1 = Octets
-behind_of (hex.VerifyN1ToS1 o) = Octets
-behind_of (hex.S1ToN1 p k) = Octets
-behind_of hex.VerifyS1ToN1 = Octets
-behind_of (hex.Raw i c w) = Octets
-behind_of hex.Show = Octets
-behind_of (hex.Across d k) = Octets
-behind_of (hex.WindowIn w) = Octets
-behind_of (hex.SealIn t d k) = Octets
-behind_of (hex.OpenIn d k) = Octets
-
-abbrev pub rest_in : Behind → Line → List ℕ → List ℕ
-rest_in Keys l o = l.integrity_key ++ l.ciphering_key
-rest_in State l o = l.integrity_key ++ (l.ciphering_key ++ counts_of l.next)
-rest_in Octets l o = o
+abbrev pub rest_in : Entry → Line → List ℕ → List ℕ
+rest_in (journal.New i c) l o = l.integrity_key ++ l.ciphering_key
+rest_in (journal.Restore i c) l o = l.integrity_key ++ (l.ciphering_key ++ counts_of l.next)
+rest_in (journal.Reselect i c) l o = l.integrity_key ++ l.ciphering_key
+rest_in e l o = o
 
 -- a room of more than 65,535 octets is written so
 unfoldable pub entry_in : Line → Entry
 entry_in l = entry_of l.call (min l.room 65535) (min l.second 65535)
 
 unfoldable pub bytes_of : Line → List ℕ → List ℕ
-bytes_of l o = front_of (entry_in l) ++ rest_in (behind_of l.call) l o
+bytes_of l o = front_of (entry_in l) ++ rest_in (entry_in l) l o
 
 -- more octets than the program holds: 4. What is no call has no kind: 1
 abbrev pub long_number : Entry → ℕ
 long_number e = cond (eqb (kind_of e) 0) 1 4
 
+abbrev pub written_as : Option ℕ → Line → List ℕ → List ℕ → Writes
+written_as None l o out = writes (Refused (long_number (entry_of l.call 0 0))) out
+written_as (Some n) l o out = write_of (kind_of (entry_in l)) (bytes_of l o) out
+
 unfoldable pub written_of : Line → List ℕ → List ℕ → Writes
-written_of l o out =
-    cond l.long (writes (Refused (long_number (entry_of l.call 0 0))) out) (write_of (kind_of (entry_in l)) (bytes_of l o) out)
+written_of l o out = written_as l.octets l o out
 
 -- the other way: a line with keys, and one with octets r, n octets of output lent and m of second output
 abbrev pub keyed : Call → List ℕ → List ℕ → Line
-keyed call next r =
-    record { slot = 0; call = call; integrity_key = key_at r 0; ciphering_key = key_at r 16; next = next; bits = no4; room = 0; second = 0; from = 0; octets = 0; long = false }
+keyed call next r = line_with 0 call (key_at r 0) (key_at r 16) next no4 0 0 None
 
 abbrev pub headed : Call → ℕ → ℕ → List ℕ → Line
-headed call n m r =
-    record { slot = 0; call = call; integrity_key = no_key; ciphering_key = no_key; next = no4; bits = no4; room = n; second = m; from = 0; octets = length r; long = false }
+headed call n m r = with (Some (length r)) (headed_two 0 call n m None)
 
 abbrev pub line_for : Entry → List ℕ → Line
 line_for journal.Unknown r = headed hex.Bad 0 0 r

@@ -1,81 +1,66 @@
 // Hex lines and the calls of a journal: the record of a line written, the line that a record's bytes are.
 #![tactic(auto)]
 
-ghost use Rattle.std.specs.Prelude.{◌≡◌, ◌++◌, ◌+◌, ◌/◌, ◌%◌, ◌<◌, min};
-ghost use Rattle.journal.specs.declared.Written.TheVariants as Written;
-ghost use Rattle.journal.specs.Write.{writes, write_of};
-ghost use Rattle.journal_calls.specs.Fields.{counts_in, counts_of};
-ghost use Rattle.journal_calls.specs.Calls.{kind_of, front_of};
-ghost use Rattle.hex_parse.specs.Lines.{no4};
-ghost use Rattle.journal_lines.specs.Lines.{place_of, access_of, entry_of, behind_of, long_number, written_of, keyed, headed, line_for, line_of};
+ghost use Rattle.std.specs.Prelude.{◌≡◌};
+ghost use Rattle.refusals.specs.Numbers.{number_of};
+ghost use Rattle.journal.specs.Write.{writes, told_written};
+ghost use Rattle.journal_lines.specs.Lines.{place_of, access_of, entry_of, long_number, written_of, keyed, headed, line_for, line_of};
 
 use hex_parse::{Call, Line};
-use journal::Written;
+use journal_calls::Call as Entry;
+use refusals::Refusal;
 
-// What stands behind the front of a call's bytes.
-#[derive(Clone, Copy)]
-pub enum Behind {
-    Keys,
-    State,
-    Octets,
-}
-
+// A line's direction is 0 or 1, its connection 1 or 2.
+#[tactic(auto, unfolding(crate::specs::Lines::place_of))]
 fn place_of(direction: u8, connection: u8) -> u8
     ensures { result ≡ place_of direction connection }
 {
-    if connection == 1 {
-        if direction == 0 {
-            return 0;
-        }
-        return 1;
+    match (direction, connection) {
+        (0, 1) => 0,
+        (_, 1) => 1,
+        (0, _) => 2,
+        _ => 3,
     }
-    if direction == 0 {
-        return 2;
-    }
-    3
 }
 
+#[tactic(auto, unfolding(crate::specs::Lines::access_of))]
 fn access_of(connection: u8) -> u8
     ensures { result ≡ access_of connection }
 {
-    if connection == 1 {
-        return 0;
-    }
-    1
+    u8::from(connection != 1)
 }
 
-fn entry_of(call: Call, room: u16, second: u16) -> journal_calls::Call
+fn entry_of(call: Call, room: u16, second: u16) -> Entry
     ensures { result ≡ entry_of call room second }
 {
     match call {
-        Call::Bad => journal_calls::Call::Unknown,
         Call::New {
             integrity,
             ciphering,
-        } => journal_calls::Call::New {
+        } => Entry::New {
             integrity,
             ciphering,
         },
         Call::Restore {
             integrity,
             ciphering,
-        } => journal_calls::Call::Restore {
+        } => Entry::Restore {
             integrity,
             ciphering,
         },
         Call::Reselect {
             integrity,
             ciphering,
-        } => journal_calls::Call::Reselect {
+        } => Entry::Reselect {
             integrity,
             ciphering,
         },
-        Call::Window(size) => journal_calls::Call::Window(size),
+        Call::Window(size) => Entry::Window(size),
         Call::Seal {
             header,
             direction,
             connection,
-        } => journal_calls::Call::Seal {
+        } => Entry::Seal {
             header,
             place: place_of(direction, connection),
             room,
@@ -84,210 +69,64 @@ fn entry_of(call: Call, room: u16, second: u16) -> journal_calls::Call
             header,
             direction,
             connection,
-        } => journal_calls::Call::Opaque {
+        } => Entry::Opaque {
             header,
             place: place_of(direction, connection),
             room,
         },
-        Call::Initial(connection) => journal_calls::Call::Initial {
+        Call::Initial(connection) => Entry::Initial {
             connection: access_of(connection),
             room,
         },
         Call::Open {
             direction,
             connection,
-        } => journal_calls::Call::Open {
+        } => Entry::Open {
             place: place_of(direction, connection),
             room,
             second,
         },
-        Call::EpsSeal => journal_calls::Call::EpsSeal(room),
-        Call::EpsOpen => journal_calls::Call::EpsOpen(room),
-        Call::N1ToS1 => journal_calls::Call::N1ToS1,
-        Call::VerifyN1ToS1(octet) => journal_calls::Call::VerifyN1ToS1(octet),
-        Call::S1ToN1 { ncc, ngksi } => journal_calls::Call::S1ToN1 { ncc, ngksi, room },
-        Call::VerifyS1ToN1 => journal_calls::Call::VerifyS1ToN1,
-        Call::Raw {
-            integrity: _,
-            ciphering: _,
-            size: _,
-        } => journal_calls::Call::Unknown,
-        Call::Show => journal_calls::Call::Unknown,
-        Call::Across {
-            direction: _,
-            connection: _,
-        } => journal_calls::Call::Unknown,
-        Call::WindowIn(_) => journal_calls::Call::Unknown,
-        Call::SealIn {
-            header: _,
-            direction: _,
-            connection: _,
-        } => journal_calls::Call::Unknown,
-        Call::OpenIn {
-            direction: _,
-            connection: _,
-        } => journal_calls::Call::Unknown,
+        Call::EpsSeal => Entry::EpsSeal(room),
+        Call::EpsOpen => Entry::EpsOpen(room),
+        Call::N1ToS1 => Entry::N1ToS1,
+        Call::VerifyN1ToS1(octet) => Entry::VerifyN1ToS1(octet),
+        Call::S1ToN1 { ncc, ngksi } => Entry::S1ToN1 { ncc, ngksi, room },
+        Call::VerifyS1ToN1 => Entry::VerifyS1ToN1,
+        Call::Bad | Call::Show | Call::Raw { .. } | Call::Across { .. } => Entry::Unknown,
+        Call::WindowIn(_) | Call::SealIn { .. } | Call::OpenIn { .. } => Entry::Unknown,
     }
 }
 
-fn behind_of(call: Call) -> Behind
-    ensures { result ≡ behind_of call }
-{
-    match call {
-        Call::Bad => Behind::Octets,
-        Call::New {
-            integrity: _,
-            ciphering: _,
-        } => Behind::Keys,
-        Call::Restore {
-            integrity: _,
-            ciphering: _,
-        } => Behind::State,
-        Call::Reselect {
-            integrity: _,
-            ciphering: _,
-        } => Behind::Keys,
-        Call::Window(_) => Behind::Octets,
-        Call::Seal {
-            header: _,
-            direction: _,
-            connection: _,
-        } => Behind::Octets,
-        Call::Opaque {
-            header: _,
-            direction: _,
-            connection: _,
-        } => Behind::Octets,
-        Call::Initial(_) => Behind::Octets,
-        Call::Open {
-            direction: _,
-            connection: _,
-        } => Behind::Octets,
-        Call::EpsSeal => Behind::Octets,
-        Call::EpsOpen => Behind::Octets,
-        Call::N1ToS1 => Behind::Octets,
-        Call::VerifyN1ToS1(_) => Behind::Octets,
-        Call::S1ToN1 { ncc: _, ngksi: _ } => Behind::Octets,
-        Call::VerifyS1ToN1 => Behind::Octets,
-        Call::Raw {
-            integrity: _,
-            ciphering: _,
-            size: _,
-        } => Behind::Octets,
-        Call::Show => Behind::Octets,
-        Call::Across {
-            direction: _,
-            connection: _,
-        } => Behind::Octets,
-        Call::WindowIn(_) => Behind::Octets,
-        Call::SealIn {
-            header: _,
-            direction: _,
-            connection: _,
-        } => Behind::Octets,
-        Call::OpenIn {
-            direction: _,
-            connection: _,
-        } => Behind::Octets,
-    }
-}
-
-// More octets than are held: 4 for a call, 1 for a line that a journal does not have.
-fn number_of(entry: journal_calls::Call) -> u8
-    ensures { result ≡ long_number entry }
+// Why a line with more octets than are held is refused: it is too long or, where it is no call of a journal, that.
+fn long_refusal(entry: Entry) -> Refusal
+    ensures { number_of result ≡ long_number entry }
 {
     match entry {
-        journal_calls::Call::Unknown => 1,
-        journal_calls::Call::New {
-            integrity: _,
-            ciphering: _,
-        } => 4,
-        journal_calls::Call::Restore {
-            integrity: _,
-            ciphering: _,
-        } => 4,
-        journal_calls::Call::Reselect {
-            integrity: _,
-            ciphering: _,
-        } => 4,
-        journal_calls::Call::Window(_) => 4,
-        journal_calls::Call::Seal {
-            header: _,
-            place: _,
-            room: _,
-        } => 4,
-        journal_calls::Call::Opaque {
-            header: _,
-            place: _,
-            room: _,
-        } => 4,
-        journal_calls::Call::Open {
-            place: _,
-            room: _,
-            second: _,
-        } => 4,
-        journal_calls::Call::EpsSeal(_) => 4,
-        journal_calls::Call::EpsOpen(_) => 4,
-        journal_calls::Call::N1ToS1 => 4,
-        journal_calls::Call::VerifyN1ToS1(_) => 4,
-        journal_calls::Call::S1ToN1 {
-            ncc: _,
-            ngksi: _,
-            room: _,
-        } => 4,
-        journal_calls::Call::VerifyS1ToN1 => 4,
-        journal_calls::Call::Initial {
-            connection: _,
-            room: _,
-        } => 4,
+        Entry::Unknown => Refusal::TooShort,
+        _ => Refusal::TooLong,
     }
-}
-
-fn long_refusal(call: Call) -> Written
-    ensures { result ≡ Written.Refused (long_number (entry_of call 0 0)) }
-{
-    let entry = entry_of(call, 0, 0);
-    Written::Refused(number_of(entry))
-}
-
-fn write_keys(entry: journal_calls::Call, ik: [u8; 16], ck: [u8; 16], out: &mut [u8]) -> Written
-    ensures { writes result out.new ≡ write_of (kind_of entry) (front_of entry ++ (ik ++ ck)) out.old }
-{
-    let keys = journal_calls::keys(ik, ck);
-    journal_calls::write(entry, &keys, out)
-}
-
-fn write_state(
-    entry: journal_calls::Call,
-    ik: [u8; 16],
-    ck: [u8; 16],
-    next: [u32; 4],
-    out: &mut [u8],
-) -> Written
-    ensures { writes result out.new ≡ write_of (kind_of entry) (front_of entry ++ (ik ++ (ck ++ counts_of next))) out.old }
-{
-    let state = journal_calls::state(ik, ck, next);
-    journal_calls::write(entry, &state, out)
 }
 
 // Writes the record of a line's call, with the line's octets, to the front of an output. A line that is no call is refused with 1.
-pub fn write(line: Line, octets: &[u8], out: &mut [u8]) -> Written
-    ensures { writes result out.new ≡ written_of line octets.now out.old }
+#[tactic(auto, unfolding(crate::specs::Lines::written_of, crate::specs::Lines::bytes_of, crate::specs::Lines::entry_in))]
+pub fn write(line: Line, octets: &[u8], out: &mut [u8]) -> Result<usize, Refusal>
+    ensures { writes (told_written result) out.new ≡ written_of line octets.now out.old }
 {
-    let call = line.call;
-    if line.long {
-        return long_refusal(call);
+    if line.octets.is_none() {
+        return Err(long_refusal(entry_of(line.call, 0, 0)));
     }
-    let ik = line.integrity_key;
-    let ck = line.ciphering_key;
-    let next = line.next;
     let room = journal_calls::room_of(line.room);
-    let entry = entry_of(call, room, journal_calls::room_of(line.second));
-    let behind = behind_of(call);
-    match behind {
-        Behind::Keys => write_keys(entry, ik, ck, out),
-        Behind::State => write_state(entry, ik, ck, next, out),
-        Behind::Octets => journal_calls::write(entry, octets, out),
+    let entry = entry_of(line.call, room, journal_calls::room_of(line.second));
+    match entry {
+        Entry::New { .. } | Entry::Reselect { .. } => {
+            let keys = journal_calls::keys(line.integrity_key, line.ciphering_key);
+            journal_calls::write(entry, &keys, out)
+        }
+        Entry::Restore { .. } => {
+            let state = journal_calls::state(line.integrity_key, line.ciphering_key, line.next);
+            journal_calls::write(entry, &state, out)
+        }
+        _ => journal_calls::write(entry, octets, out),
     }
 }
 
@@ -295,17 +134,10 @@ fn keyed(call: Call, next: [u32; 4], rest: &[u8]) -> Line
     ensures { result ≡ keyed call next rest.now }
 {
     Line {
-        slot: 0,
-        call,
-        integrity_key: journal_calls::integrity_key(rest),
-        ciphering_key: journal_calls::ciphering_key(rest),
+        integrity_key: journal_calls::key(rest, 0),
+        ciphering_key: journal_calls::key(rest, 16),
         next,
-        bits: [0; 4],
-        room: 0,
-        second: 0,
-        from: 0,
-        octets: 0,
-        long: false,
+        ..Line::plain(0, call)
     }
 }
 
@@ -313,26 +145,19 @@ fn headed(call: Call, room: u16, second: u16, rest: &[u8]) -> Line
     ensures { result ≡ headed call room second rest.now }
 {
     Line {
-        slot: 0,
-        call,
-        integrity_key: [0; 16],
-        ciphering_key: [0; 16],
-        next: [0; 4],
-        bits: [0; 4],
         room: room as usize,
         second: second as usize,
-        from: 0,
-        octets: rest.len(),
-        long: false,
+        octets: Some(rest.len()),
+        ..Line::plain(0, call)
     }
 }
 
-fn line_for(entry: journal_calls::Call, rest: &[u8]) -> Line
+fn line_for(entry: Entry, rest: &[u8]) -> Line
     ensures { result ≡ line_for entry rest.now }
 {
     match entry {
-        journal_calls::Call::Unknown => headed(Call::Bad, 0, 0, rest),
-        journal_calls::Call::New {
+        Entry::Unknown => headed(Call::Bad, 0, 0, rest),
+        Entry::New {
             integrity,
             ciphering,
         } => keyed(
@@ -343,7 +168,7 @@ fn line_for(entry: journal_calls::Call, rest: &[u8]) -> Line
             [0; 4],
             rest,
         ),
-        journal_calls::Call::Restore {
+        Entry::Restore {
             integrity,
             ciphering,
         } => keyed(
@@ -354,7 +179,7 @@ fn line_for(entry: journal_calls::Call, rest: &[u8]) -> Line
             journal_calls::counts(rest),
             rest,
         ),
-        journal_calls::Call::Reselect {
+        Entry::Reselect {
             integrity,
             ciphering,
         } => keyed(
@@ -365,8 +190,8 @@ fn line_for(entry: journal_calls::Call, rest: &[u8]) -> Line
             [0; 4],
             rest,
         ),
-        journal_calls::Call::Window(size) => headed(Call::Window(size), 0, 0, rest),
-        journal_calls::Call::Seal {
+        Entry::Window(size) => headed(Call::Window(size), 0, 0, rest),
+        Entry::Seal {
             header,
             place,
             room,
@@ -380,7 +205,7 @@ fn line_for(entry: journal_calls::Call, rest: &[u8]) -> Line
             0,
             rest,
         ),
-        journal_calls::Call::Opaque {
+        Entry::Opaque {
             header,
             place,
             room,
@@ -394,7 +219,7 @@ fn line_for(entry: journal_calls::Call, rest: &[u8]) -> Line
             0,
             rest,
         ),
-        journal_calls::Call::Open {
+        Entry::Open {
             place,
             room,
             second,
@@ -407,21 +232,22 @@ fn line_for(entry: journal_calls::Call, rest: &[u8]) -> Line
             second,
             rest,
         ),
-        journal_calls::Call::EpsSeal(room) => headed(Call::EpsSeal, room, 0, rest),
-        journal_calls::Call::EpsOpen(room) => headed(Call::EpsOpen, room, 0, rest),
-        journal_calls::Call::N1ToS1 => headed(Call::N1ToS1, 0, 0, rest),
-        journal_calls::Call::VerifyN1ToS1(octet) => headed(Call::VerifyN1ToS1(octet), 0, 0, rest),
-        journal_calls::Call::S1ToN1 { ncc, ngksi, room } => {
+        Entry::EpsSeal(room) => headed(Call::EpsSeal, room, 0, rest),
+        Entry::EpsOpen(room) => headed(Call::EpsOpen, room, 0, rest),
+        Entry::N1ToS1 => headed(Call::N1ToS1, 0, 0, rest),
+        Entry::VerifyN1ToS1(octet) => headed(Call::VerifyN1ToS1(octet), 0, 0, rest),
+        Entry::S1ToN1 { ncc, ngksi, room } => {
             headed(Call::S1ToN1 { ncc, ngksi }, room, 0, rest)
         }
-        journal_calls::Call::VerifyS1ToN1 => headed(Call::VerifyS1ToN1, 0, 0, rest),
-        journal_calls::Call::Initial { connection, room } => {
+        Entry::VerifyS1ToN1 => headed(Call::VerifyS1ToN1, 0, 0, rest),
+        Entry::Initial { connection, room } => {
             headed(Call::Initial(connection % 2 + 1), room, 0, rest)
         }
     }
 }
 
 // The line that a record's bytes are. Its octets are what `journal_calls::rest` shows of them.
+#[tactic(auto, unfolding(crate::specs::Lines::line_of))]
 pub fn line_of(kind: u8, octets: &[u8]) -> Line
     ensures { result ≡ line_of kind octets.now }
 {

@@ -11,13 +11,13 @@ use Rattle.refusals.specs.Order.{◌when◌, first}
 use Rattle.nas_core.specs.Refusals.{unbuilt}
 use Rattle.nas_5gs.specs.Places.{four, any_over}
 use Rattle.nas_5gs.specs.declared.Context.{Context}
-use Rattle.nas_5gs.specs.declared.ChangeAnswer.{ChangeAnswer}
-use Rattle.nas_5gs.specs.declared.ChangeAnswer.TheVariants as change
-use Rattle.nas_5gs.specs.declared.UseAnswer.TheVariants as use'
-use Rattle.nas_5gs.specs.declared.OctetAnswer.TheVariants as octet
-use Rattle.nas_5gs.specs.declared.OpenAnswer.TheVariants as open'
-use Rattle.nas_5gs.specs.declared.EpsOpenAnswer.TheVariants as eps
-use Rattle.nas_5gs.specs.declared.VerifyAnswer.TheVariants as verify
+use Rattle.nas_core.specs.ChangeAnswer.{ChangeAnswer}
+use Rattle.nas_core.specs.ChangeAnswer as change
+use Rattle.nas_core.specs.UseAnswer as use'
+use Rattle.nas_5gs.specs.OctetAnswer as octet
+use Rattle.nas_5gs.specs.OpenAnswer as open'
+use Rattle.nas_5gs.specs.EpsOpenAnswer as eps
+use Rattle.nas_5gs.specs.VerifyAnswer as verify
 use Rattle.nas_5gs.specs.Leaves.{Leaves, leaves, LeavesTwo, leaves_two, Values, refusal, change_values, use_values, open_values, eps_open_values, octet_values, verify_values}
 use Rattle.nas_5gs.specs.Changes.{context_with, refused_context, new_of, restore_of, reselect_of, window_of}
 use Rattle.nas_5gs.specs.Seal.{seal_of, seal_opaque_of}

@@ -17,9 +17,8 @@ use Rattle.envelope.specs.declared.Inside.TheVariants.{Refused, Handed}
 use Rattle.envelope.specs.Initial.{beside_of, beside, told}
 use Rattle.envelope.proofs.Insides.{asked_is}
 use Rattle.nas_5gs.specs.declared.Context.{Context}
-use Rattle.nas_5gs.specs.declared.OpenAnswer.{OpenAnswer}
-use Rattle.nas_5gs.specs.declared.OpenAnswer.TheVariants.{Accepted, Content}
-use Rattle.nas_5gs.specs.declared.EpsOpenAnswer.{EpsOpenAnswer}
+use Rattle.nas_5gs.specs.OpenAnswer.{OpenAnswer, Accepted, Content}
+use Rattle.nas_5gs.specs.EpsOpenAnswer.{EpsOpenAnswer}
 use Rattle.nas_5gs.specs.Leaves.{leaves, leaves_two, over}
 use Rattle.nas_5gs.specs.Envelope.{ciphers}
 use Rattle.nas_5gs.specs.Open.{inside_number, open_answer, handed}

@@ -7,8 +7,7 @@ pub use Rattle.nas_core.specs.Keyed.{core_with}
 use Rattle.nas_core.specs.Refusals.{unbuilt}
 use Rattle.aes.specs.Keys.{key_of}
 use Rattle.nas_5gs.specs.declared.Context.{Context}
-use Rattle.nas_5gs.specs.declared.ChangeAnswer.{ChangeAnswer}
-use Rattle.nas_5gs.specs.declared.ChangeAnswer.TheVariants.{Refused, Done}
+use Rattle.nas_core.specs.ChangeAnswer.{ChangeAnswer, Refused, Done}
 use Rattle.nas_5gs.specs.Places.{record_at, four, any_over, fault_of}
 use Rattle.nas_5gs.specs.Leaves.{Leaves, leaves}
 

@@ -10,12 +10,11 @@ pub use Rattle.envelope.specs.Containers.{container_bearer, container_direction,
 use Rattle.nas_5gs.specs.declared.Direction.TheVariants.{Downlink}
 use Rattle.nas_5gs.specs.declared.Connection.TheVariants.{ThreeGpp}
 use Rattle.nas_5gs.specs.declared.Context.{Context}
-use Rattle.nas_5gs.specs.declared.UseAnswer.{UseAnswer}
-use Rattle.nas_5gs.specs.declared.UseAnswer.TheVariants.{Refused}
-use Rattle.nas_5gs.specs.declared.OctetAnswer.{OctetAnswer}
-use Rattle.nas_5gs.specs.declared.OctetAnswer.TheVariants as octet
-use Rattle.nas_5gs.specs.declared.VerifyAnswer.{VerifyAnswer}
-use Rattle.nas_5gs.specs.declared.VerifyAnswer.TheVariants as verify
+use Rattle.nas_core.specs.UseAnswer.{UseAnswer, Refused}
+use Rattle.nas_5gs.specs.OctetAnswer.{OctetAnswer}
+use Rattle.nas_5gs.specs.OctetAnswer as octet
+use Rattle.nas_5gs.specs.VerifyAnswer.{VerifyAnswer}
+use Rattle.nas_5gs.specs.VerifyAnswer as verify
 use Rattle.nas_5gs.specs.Places.{place_of, record_at, next_at, fault_of, used}
 use Rattle.nas_5gs.specs.Leaves.{Leaves, leaves, use_next, received}
 

@@ -10,10 +10,9 @@ pub use Rattle.envelope.specs.Eps.{eps_bearer, eps_direction}
 use Rattle.nas_5gs.specs.declared.Direction.TheVariants.{Uplink}
 use Rattle.nas_5gs.specs.declared.Connection.TheVariants.{ThreeGpp}
 use Rattle.nas_5gs.specs.declared.Context.{Context}
-use Rattle.nas_5gs.specs.declared.UseAnswer.{UseAnswer}
-use Rattle.nas_5gs.specs.declared.UseAnswer.TheVariants as use'
-use Rattle.nas_5gs.specs.declared.EpsOpenAnswer.{EpsOpenAnswer}
-use Rattle.nas_5gs.specs.declared.EpsOpenAnswer.TheVariants.{Refused, Accepted, Content}
+use Rattle.nas_core.specs.UseAnswer.{UseAnswer}
+use Rattle.nas_core.specs.UseAnswer as use'
+use Rattle.nas_5gs.specs.EpsOpenAnswer.{EpsOpenAnswer, Refused, Accepted, Content}
 use Rattle.nas_5gs.specs.Places.{place_of, record_at, next_at, fault_of}
 use Rattle.nas_5gs.specs.Leaves.{Leaves, leaves, over, use_next, received}
 

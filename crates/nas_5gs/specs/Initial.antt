@@ -8,8 +8,7 @@ use Rattle.envelope.specs.Initial.{initial_envelope}
 use Rattle.nas_5gs.specs.declared.Direction.TheVariants.{Uplink}
 use Rattle.nas_5gs.specs.declared.Connection.{Connection}
 use Rattle.nas_5gs.specs.declared.Context.{Context}
-use Rattle.nas_5gs.specs.declared.UseAnswer.{UseAnswer}
-use Rattle.nas_5gs.specs.declared.UseAnswer.TheVariants.{Refused}
+use Rattle.nas_core.specs.UseAnswer.{UseAnswer, Refused}
 use Rattle.nas_5gs.specs.Places.{bearer_no, place_of, next_at, fault_of}
 use Rattle.nas_5gs.specs.Leaves.{Leaves, leaves, use_next}
 

@@ -1,21 +1,21 @@
 -- What a call on a 5GS context leaves, and document 01's values for each answer ("Refusal numbers").
 use Rattle.std.specs.Prelude.{ℕ, true, false, List}
-use Rattle.count.specs.declared.Opening.{Opening}
+use Rattle.count.specs.Rule.{Opening}
 use Rattle.nas_core.specs.Leaves.{Leaves as LeavesOf, used_with, received_as}
 pub use Rattle.nas_core.specs.Leaves.{leaves, over, Values, refusal, success}
 use Rattle.nas_5gs.specs.declared.Context.{Context}
-use Rattle.nas_5gs.specs.declared.ChangeAnswer.{ChangeAnswer}
-use Rattle.nas_5gs.specs.declared.ChangeAnswer.TheVariants as change
-use Rattle.nas_5gs.specs.declared.UseAnswer.{UseAnswer}
-use Rattle.nas_5gs.specs.declared.UseAnswer.TheVariants as use'
-use Rattle.nas_5gs.specs.declared.OpenAnswer.{OpenAnswer}
-use Rattle.nas_5gs.specs.declared.OpenAnswer.TheVariants as open'
-use Rattle.nas_5gs.specs.declared.EpsOpenAnswer.{EpsOpenAnswer}
-use Rattle.nas_5gs.specs.declared.EpsOpenAnswer.TheVariants as eps
-use Rattle.nas_5gs.specs.declared.OctetAnswer.{OctetAnswer}
-use Rattle.nas_5gs.specs.declared.OctetAnswer.TheVariants as octet
-use Rattle.nas_5gs.specs.declared.VerifyAnswer.{VerifyAnswer}
-use Rattle.nas_5gs.specs.declared.VerifyAnswer.TheVariants as verify
+use Rattle.nas_core.specs.ChangeAnswer.{ChangeAnswer}
+use Rattle.nas_core.specs.ChangeAnswer as change
+use Rattle.nas_core.specs.UseAnswer.{UseAnswer}
+use Rattle.nas_core.specs.UseAnswer as use'
+use Rattle.nas_5gs.specs.OpenAnswer.{OpenAnswer}
+use Rattle.nas_5gs.specs.OpenAnswer as open'
+use Rattle.nas_5gs.specs.EpsOpenAnswer.{EpsOpenAnswer}
+use Rattle.nas_5gs.specs.EpsOpenAnswer as eps
+use Rattle.nas_5gs.specs.OctetAnswer.{OctetAnswer}
+use Rattle.nas_5gs.specs.OctetAnswer as octet
+use Rattle.nas_5gs.specs.VerifyAnswer.{VerifyAnswer}
+use Rattle.nas_5gs.specs.VerifyAnswer as verify
 use Rattle.nas_5gs.specs.Places.{next_at, used, used_late}
 
 abbrev pub Leaves : Type 0 → Type 0

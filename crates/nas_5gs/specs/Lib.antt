@@ -1,3 +1,7 @@
+pub mod OpenAnswer
+pub mod EpsOpenAnswer
+pub mod OctetAnswer
+pub mod VerifyAnswer
 pub mod Places
 pub mod Leaves
 pub mod Changes

@@ -12,8 +12,7 @@ use Rattle.envelope.specs.Initial.{beside_of, beside, is_refused}
 use Rattle.nas_5gs.specs.declared.Direction.{Direction}
 use Rattle.nas_5gs.specs.declared.Connection.{Connection}
 use Rattle.nas_5gs.specs.declared.Context.{Context}
-use Rattle.nas_5gs.specs.declared.OpenAnswer.{OpenAnswer}
-use Rattle.nas_5gs.specs.declared.OpenAnswer.TheVariants.{Refused, Accepted, Content}
+use Rattle.nas_5gs.specs.OpenAnswer.{OpenAnswer, Refused, Accepted, Content}
 use Rattle.nas_5gs.specs.Places.{direction_no, bearer_no, place_of, record_at, fault_of}
 use Rattle.nas_5gs.specs.Leaves.{LeavesTwo, leaves_two, over, received}
 use Rattle.nas_5gs.specs.Envelope.{wrong_type, ciphers}

@@ -6,8 +6,7 @@ use Rattle.look.specs.Look.{not_known, not_together, wrong_way}
 use Rattle.nas_5gs.specs.declared.Direction.{Direction}
 use Rattle.nas_5gs.specs.declared.Connection.{Connection}
 use Rattle.nas_5gs.specs.declared.Context.{Context}
-use Rattle.nas_5gs.specs.declared.UseAnswer.{UseAnswer}
-use Rattle.nas_5gs.specs.declared.UseAnswer.TheVariants.{Refused}
+use Rattle.nas_core.specs.UseAnswer.{UseAnswer, Refused}
 use Rattle.nas_5gs.specs.Places.{direction_no, bearer_no, place_of, next_at, fault_of}
 use Rattle.nas_5gs.specs.Leaves.{Leaves, leaves, use_next}
 use Rattle.nas_5gs.specs.Envelope.{wrong_type, envelope}

@@ -1,13 +1,16 @@
 // Calls that use no COUNT: creation, restore, reselection, window size, reading.
-ghost use Rattle.std.specs.Prelude.{◌≡◌, [], ◌≤◌};
-ghost use Rattle.nas_5gs.specs.Places.{place_of, next_at};
+ghost use Rattle.std.specs.Prelude.{◌≡◌, [], ◌≤◌, Err};
+ghost use Rattle.nas_core.specs.ChangeAnswer.{told_change};
+ghost use Rattle.count.specs.Rule.{resize_of};
+ghost use Rattle.nas_5gs.specs.Places.{place_of, record_at, next_at, four};
 ghost use Rattle.nas_5gs.specs.Leaves.{leaves};
-ghost use Rattle.nas_5gs.specs.Changes.{context_with, refused_context, new_of, restore_of, closed, kept_for, reselect_of, resized, window_of};
+ghost use Rattle.nas_5gs.specs.Changes.{context_with, refused_context, new_of, restore_of, kept_for, reselect_of, resized, window_of};
 
-use crate::{ChangeAnswer, ChangeDone, Connection, Context, Direction};
+use crate::{Connection, Context, Direction};
 use aes::Key;
 use count::Record;
-use nas_core::Core;
+use nas_core::{Core, Done};
+use refusals::Refusal;
 
 fn context_with(
     integrity: u8,
@@ -18,42 +21,27 @@ fn context_with(
 ) -> Context
     ensures { result ≡ context_with integrity ciphering integrity_key ciphering_key next }
 {
-    let integrity_key = Key::of(integrity_key);
-    let ciphering_key = Key::of(ciphering_key);
     let core = Core {
         integrity,
         ciphering,
-        integrity_key,
-        ciphering_key,
+        integrity_key: Key::of(integrity_key),
+        ciphering_key: Key::of(ciphering_key),
         size: 0,
-    };
-    let a = Record {
-        next: next[0],
-        bits: 0,
-    };
-    let b = Record {
-        next: next[1],
-        bits: 0,
-    };
-    let c = Record {
-        next: next[2],
-        bits: 0,
-    };
-    let d = Record {
-        next: next[3],
-        bits: 0,
     };
     Context {
         core,
-        records: [a, b, c, d],
+        records: next.map(|next| Record { next, bits: 0 }),
     }
 }
 
 // What a refused creation or restore hands back: every call refuses it with 13.
-fn refused_context() -> Context
-    ensures { result ≡ refused_context }
+fn refused_with(refusal: Refusal) -> Done<Result<(), Refusal>, Context>
+    ensures { (result.answer ≡ Err refusal) × (result.context ≡ refused_context) }
 {
-    context_with(255, 255, [0; 16], [0; 16], [0; 4])
+    Done {
+        answer: Err(refusal),
+        context: context_with(255, 255, [0; 16], [0; 16], [0; 4]),
+    }
 }
 
 impl Context {
@@ -62,19 +50,15 @@ impl Context {
         ciphering: u8,
         integrity_key: [u8; 16],
         ciphering_key: [u8; 16],
-    ) -> ChangeDone
-        ensures { leaves result.answer result.context [] ≡ new_of integrity ciphering integrity_key ciphering_key }
+    ) -> Done<Result<(), Refusal>, Context>
+        ensures { leaves (told_change result.answer) result.context [] ≡ new_of integrity ciphering integrity_key ciphering_key }
     {
         if nas_core::is_unbuilt(integrity, ciphering) {
-            return ChangeDone {
-                answer: ChangeAnswer::Refused(13),
-                context: refused_context(),
-            };
+            return refused_with(Refusal::NotBuilt);
         }
-        let context = context_with(integrity, ciphering, integrity_key, ciphering_key, [0; 4]);
-        ChangeDone {
-            answer: ChangeAnswer::Done,
-            context,
+        Done {
+            answer: Ok(()),
+            context: context_with(integrity, ciphering, integrity_key, ciphering_key, [0; 4]),
         }
     }
 
@@ -85,56 +69,39 @@ impl Context {
         integrity_key: [u8; 16],
         ciphering_key: [u8; 16],
         next: [u32; 4],
-    ) -> ChangeDone
-        ensures { leaves result.answer result.context [] ≡ restore_of integrity ciphering integrity_key ciphering_key next }
+    ) -> Done<Result<(), Refusal>, Context>
+        ensures { leaves (told_change result.answer) result.context [] ≡ restore_of integrity ciphering integrity_key ciphering_key next }
     {
         if nas_core::is_unbuilt(integrity, ciphering) {
-            return ChangeDone {
-                answer: ChangeAnswer::Refused(13),
-                context: refused_context(),
-            };
+            return refused_with(Refusal::NotBuilt);
         }
-        if crate::any_over(next[0], next[1], next[2], next[3]) {
-            return ChangeDone {
-                answer: ChangeAnswer::Refused(16),
-                context: refused_context(),
-            };
+        if nas_core::any_over(&next) {
+            return refused_with(Refusal::OutOfRange);
         }
-        let context = context_with(integrity, ciphering, integrity_key, ciphering_key, next);
-        ChangeDone {
-            answer: ChangeAnswer::Done,
-            context,
+        Done {
+            answer: Ok(()),
+            context: context_with(integrity, ciphering, integrity_key, ciphering_key, next),
         }
     }
 
-    // Every late COUNT closed: a new size after none.
-    fn closed(self) -> Context
-        requires { self.core.size ≤ 64 }
-        ensures { result ≡ closed self }
+    // Every record under a new size of the window.
+    fn with_size(self, old: u8, new: u8) -> Context
+        requires { (old ≤ 64) × (new ≤ 64) }
+        ensures { result ≡ record { core = self.core; records = four (λ p. resize_of old new (record_at self p)) } }
     {
-        let core = self.core;
-        let size = core.size;
-        let a = self.records[0];
-        let b = self.records[1];
-        let c = self.records[2];
-        let d = self.records[3];
-        let records = [
-            a.resize(0, size),
-            b.resize(0, size),
-            c.resize(0, size),
-            d.resize(0, size),
-        ];
-        Context { core, records }
+        Context {
+            core: self.core,
+            records: self.records.map(|record| record.resize(old, new)),
+        }
     }
 
-    // The context as a reselection to this integrity code takes it.
+    // The context as a reselection to this integrity code takes it: away from null integrity every late COUNT is closed, as by a new size after none.
     fn kept_for(self, integrity: u8) -> Context
         requires { self.core.size ≤ 64 }
         ensures { result ≡ kept_for self integrity }
     {
-        let from = self.core.integrity;
-        if nas_core::away_from_null(from, integrity) {
-            return self.closed();
+        if nas_core::away_from_null(self.core.integrity, integrity) {
+            return self.with_size(0, self.core.size);
         }
         self
     }
@@ -145,36 +112,25 @@ impl Context {
         ciphering: u8,
         integrity_key: [u8; 16],
         ciphering_key: [u8; 16],
-    ) -> ChangeDone
-        ensures { leaves result.answer result.context [] ≡ reselect_of self integrity ciphering integrity_key ciphering_key }
+    ) -> Done<Result<(), Refusal>, Context>
+        ensures { leaves (told_change result.answer) result.context [] ≡ reselect_of self integrity ciphering integrity_key ciphering_key }
     {
-        let n = self.fault();
-        if n != 0 {
-            return ChangeDone {
-                answer: ChangeAnswer::Refused(n),
-                context: self,
-            };
+        if let Err(refusal) = self.check() {
+            return self.unchanged(Err(refusal));
         }
         if nas_core::is_unbuilt(integrity, ciphering) {
-            return ChangeDone {
-                answer: ChangeAnswer::Refused(13),
-                context: self,
-            };
+            return self.unchanged(Err(Refusal::NotBuilt));
         }
-        let integrity_key = Key::of(integrity_key);
-        let ciphering_key = Key::of(ciphering_key);
         let mut context = self.kept_for(integrity);
-        let size = self.core.size;
-        let core = Core {
+        context.core = Core {
             integrity,
             ciphering,
-            integrity_key,
-            ciphering_key,
-            size,
+            integrity_key: Key::of(integrity_key),
+            ciphering_key: Key::of(ciphering_key),
+            size: self.core.size,
         };
-        context.core = core;
-        ChangeDone {
-            answer: ChangeAnswer::Done,
+        Done {
+            answer: Ok(()),
             context,
         }
     }
@@ -183,40 +139,22 @@ impl Context {
         requires { (self.core.size ≤ 64) × (size ≤ 64) }
         ensures { result ≡ resized self size }
     {
-        let mut core = self.core;
-        let old = core.size;
-        core.size = size;
-        let a = self.records[0];
-        let b = self.records[1];
-        let c = self.records[2];
-        let d = self.records[3];
-        let records = [
-            a.resize(old, size),
-            b.resize(old, size),
-            c.resize(old, size),
-            d.resize(old, size),
-        ];
-        Context { core, records }
+        let mut context = self.with_size(self.core.size, size);
+        context.core.size = size;
+        context
     }
 
-    pub fn set_window(self, size: u8) -> ChangeDone
-        ensures { leaves result.answer result.context [] ≡ window_of self size }
+    pub fn set_window(self, size: u8) -> Done<Result<(), Refusal>, Context>
+        ensures { leaves (told_change result.answer) result.context [] ≡ window_of self size }
     {
-        let n = self.fault();
-        if n != 0 {
-            return ChangeDone {
-                answer: ChangeAnswer::Refused(n),
-                context: self,
-            };
+        if let Err(refusal) = self.check() {
+            return self.unchanged(Err(refusal));
         }
         if 64 < size {
-            return ChangeDone {
-                answer: ChangeAnswer::Refused(14),
-                context: self,
-            };
+            return self.unchanged(Err(Refusal::WindowTooLarge));
         }
-        ChangeDone {
-            answer: ChangeAnswer::Done,
+        Done {
+            answer: Ok(()),
             context: self.resized(size),
         }
     }
@@ -225,8 +163,7 @@ impl Context {
     pub fn next_count(self, direction: Direction, connection: Connection) -> u32
         ensures { result ≡ next_at self (place_of direction connection) }
     {
-        let p = crate::place(direction, connection);
-        self.records[p].next
+        self.records[crate::place(direction, connection)].next
     }
 
     pub fn window(self) -> u8

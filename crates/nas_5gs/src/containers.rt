@@ -1,146 +1,121 @@
 // The NAS transparent containers of a handover between 5GS and EPS: downlink 3GPP record, bearer 1, direction 1.
 ghost use Rattle.std.specs.Prelude.{◌≡◌, [], ◌<◌};
+ghost use Rattle.refusals.specs.Numbers.{refused};
+ghost use Rattle.nas_core.specs.UseAnswer.{told_use};
+ghost use Rattle.nas_5gs.specs.OctetAnswer.{told_octet};
+ghost use Rattle.nas_5gs.specs.VerifyAnswer.{told_verify};
 ghost use Rattle.nas_5gs.specs.Leaves.{leaves};
 ghost use Rattle.nas_5gs.specs.Containers.{n1_to_s1_of, verify_n1_to_s1_of, s1_to_n1_refusal, s1_to_n1_of, verify_s1_to_n1_refusal, verify_s1_to_n1_of};
 
-use crate::{Context, OctetAnswer, OctetDone, UseAnswer, UseDone, VerifyAnswer, VerifyDone};
-use count::Candidate;
+use crate::{CONTAINER_PLACE, Context, MadeOctet, Reached};
+use nas_core::{Done, Spent};
+use refusals::Refusal;
 
 impl Context {
-    pub fn n1_to_s1_container(self) -> OctetDone
-        ensures { leaves result.answer result.context [] ≡ n1_to_s1_of self }
+    pub fn n1_to_s1_container(self) -> Done<Result<MadeOctet, Refusal>, Context>
+        ensures { leaves (told_octet result.answer) result.context [] ≡ n1_to_s1_of self }
     {
-        let n = self.fault();
-        if n != 0 {
-            return OctetDone {
-                answer: OctetAnswer::Refused(n),
-                context: self,
-            };
+        if let Err(refusal) = self.check() {
+            return self.unchanged(Err(refusal));
         }
-        let count = self.records[crate::CONTAINER_PLACE].next;
+        let count = self.records[CONTAINER_PLACE].next;
         if count::EXHAUSTED <= count {
-            return OctetDone {
-                answer: OctetAnswer::Refused(6),
-                context: self,
-            };
+            return self.unchanged(Err(Refusal::NoCount));
         }
         let octet = (count % 256) as u8;
-        OctetDone {
-            answer: OctetAnswer::Made { count, octet },
-            context: self.used(crate::CONTAINER_PLACE, count),
+        Done {
+            answer: Ok(MadeOctet { count, octet }),
+            context: self.used(CONTAINER_PLACE, count),
         }
     }
 
-    pub fn verify_n1_to_s1_container(self, octet: u8) -> VerifyDone
-        ensures { leaves result.answer result.context [] ≡ verify_n1_to_s1_of self octet }
+    pub fn verify_n1_to_s1_container(self, octet: u8) -> Done<Result<Reached, Refusal>, Context>
+        ensures { leaves (told_verify result.answer) result.context [] ≡ verify_n1_to_s1_of self octet }
     {
-        let n = self.fault();
-        if n != 0 {
-            return VerifyDone {
-                answer: VerifyAnswer::Refused(n),
-                context: self,
-            };
+        if let Err(refusal) = self.check() {
+            return self.unchanged(Err(refusal));
         }
-        let core = self.core;
-        let rec = self.records[crate::CONTAINER_PLACE];
-        let candidate = core.forward(rec, octet);
-        match candidate {
-            Candidate::Nothing => VerifyDone {
-                answer: VerifyAnswer::Refused(6),
-                context: self,
-            },
-            Candidate::At(c) => VerifyDone {
-                answer: VerifyAnswer::Verified {
-                    count: c,
-                    distance: rec.distance_to(c),
-                },
-                context: self.used(crate::CONTAINER_PLACE, c),
+        let rec = self.records[CONTAINER_PLACE];
+        match self.core.forward(rec, octet) {
+            None => self.unchanged(Err(Refusal::NoCount)),
+            Some(count) => Done {
+                answer: Ok(Reached {
+                    count,
+                    distance: rec.distance_to(count),
+                }),
+                context: self.used(CONTAINER_PLACE, count),
             },
         }
     }
 
-    fn s1_to_n1_refusal(self, ncc: u8, ngksi: u8, room: usize) -> u8
-        ensures { result ≡ s1_to_n1_refusal self ncc ngksi room }
+    fn check_s1_to_n1(self, ncc: u8, ngksi: u8, room: usize) -> Result<(), Refusal>
+        ensures { refused result ≡ s1_to_n1_refusal self ncc ngksi room }
     {
-        let n = self.fault();
-        if n != 0 {
-            return n;
-        }
-        if 7 < ncc {
-            return 16;
-        }
-        if 15 < ngksi {
-            return 16;
+        self.check()?;
+        if 7 < ncc || 15 < ngksi {
+            return Err(Refusal::OutOfRange);
         }
         if room < 8 {
-            return 5;
+            return Err(Refusal::NoRoom);
         }
-        if count::EXHAUSTED <= self.records[crate::CONTAINER_PLACE].next {
-            return 6;
+        if count::EXHAUSTED <= self.records[CONTAINER_PLACE].next {
+            return Err(Refusal::NoCount);
         }
-        0
+        Ok(())
     }
 
-    pub fn s1_to_n1_container(self, ncc: u8, ngksi: u8, out: &mut [u8]) -> UseDone
-        ensures { leaves result.answer result.context out.new ≡ s1_to_n1_of self ncc ngksi out.old }
+    pub fn s1_to_n1_container(
+        self,
+        ncc: u8,
+        ngksi: u8,
+        out: &mut [u8],
+    ) -> Done<Result<Spent, Refusal>, Context>
+        ensures { leaves (told_use result.answer) result.context out.new ≡ s1_to_n1_of self ncc ngksi out.old }
     {
-        let n = self.s1_to_n1_refusal(ncc, ngksi, out.len());
-        if n != 0 {
-            return UseDone {
-                answer: UseAnswer::Refused(n),
-                context: self,
-            };
+        if let Err(refusal) = self.check_s1_to_n1(ncc, ngksi, out.len()) {
+            return self.unchanged(Err(refusal));
         }
-        let count = self.records[crate::CONTAINER_PLACE].next;
+        let count = self.records[CONTAINER_PLACE].next;
         envelope::put_s1_to_n1(self.core, ncc, ngksi, out);
-        UseDone {
-            answer: UseAnswer::Used { count, wrote: 8 },
-            context: self.used(crate::CONTAINER_PLACE, count),
+        Done {
+            answer: Ok(Spent { count, wrote: 8 }),
+            context: self.used(CONTAINER_PLACE, count),
         }
     }
 
-    fn verify_s1_to_n1_refusal(self, value: &[u8]) -> u8
-        ensures { result ≡ verify_s1_to_n1_refusal self value.now }
+    fn check_verify_s1_to_n1(self, value: &[u8]) -> Result<(), Refusal>
+        ensures { refused result ≡ verify_s1_to_n1_refusal self value.now }
     {
-        let n = self.fault();
-        if n != 0 {
-            return n;
-        }
+        self.check()?;
         if value.len() < 8 {
-            return 1;
+            return Err(Refusal::TooShort);
         }
         if nas_core::LIMIT < value.len() {
-            return 4;
+            return Err(Refusal::TooLong);
         }
-        let core = self.core;
-        if envelope::other_algorithms(core, value) {
-            return 15;
+        if envelope::other_algorithms(self.core, value) {
+            return Err(Refusal::OtherAlgorithms);
         }
-        let next = self.records[crate::CONTAINER_PLACE].next;
-        if count::EXHAUSTED <= next {
-            return 6;
+        if count::EXHAUSTED <= self.records[CONTAINER_PLACE].next {
+            return Err(Refusal::NoCount);
         }
-        if envelope::fits_s1_to_n1(core, value) {
-            return 0;
+        if !envelope::fits_s1_to_n1(self.core, value) {
+            return Err(Refusal::WrongCode);
         }
-        7
+        Ok(())
     }
 
     // A longer value is verified whole.
-    pub fn verify_s1_to_n1_container(self, value: &[u8]) -> UseDone
-        ensures { leaves result.answer result.context [] ≡ verify_s1_to_n1_of self value.now }
+    pub fn verify_s1_to_n1_container(self, value: &[u8]) -> Done<Result<Spent, Refusal>, Context>
+        ensures { leaves (told_use result.answer) result.context [] ≡ verify_s1_to_n1_of self value.now }
     {
-        let n = self.verify_s1_to_n1_refusal(value);
-        if n != 0 {
-            return UseDone {
-                answer: UseAnswer::Refused(n),
-                context: self,
-            };
+        if let Err(refusal) = self.check_verify_s1_to_n1(value) {
+            return self.unchanged(Err(refusal));
         }
-        let count = self.records[crate::CONTAINER_PLACE].next;
-        UseDone {
-            answer: UseAnswer::Used { count, wrote: 0 },
-            context: self.used(crate::CONTAINER_PLACE, count),
+        let count = self.records[CONTAINER_PLACE].next;
+        Done {
+            answer: Ok(Spent { count, wrote: 0 }),
+            context: self.used(CONTAINER_PLACE, count),
         }
     }
 }

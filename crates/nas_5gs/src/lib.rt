@@ -12,16 +12,17 @@ mod eps;
 mod open;
 mod seal;
 
-use count::Record;
-use nas_core::Core;
+use nas_core::{Core, Done, Received};
+use count::{Record, Taken};
+use refusals::Refusal;
 
-#[derive(Clone, Copy)]
+#[derive(Clone, Copy, Debug, PartialEq, Eq)]
 pub enum Direction {
     Uplink,
     Downlink,
 }
 
-#[derive(Clone, Copy)]
+#[derive(Clone, Copy, Debug, PartialEq, Eq)]
 pub enum Connection {
     ThreeGpp,
     Non3Gpp,
@@ -29,7 +30,7 @@ pub enum Connection {
 
 // Four records in a row: uplink and downlink of 3GPP access, then of non-3GPP access.
 #[repr(C)]
-#[derive(Clone, Copy)]
+#[derive(Clone, Copy, PartialEq, Eq)]
 pub struct Context {
     pub core: Core,
     pub records: [Record; 4],
@@ -40,154 +41,73 @@ const EPS_PLACE: usize = 0;
 
 const CONTAINER_PLACE: usize = 1;
 
-// Creation, restore, reselection and window size.
-#[derive(Clone, Copy)]
-pub enum ChangeAnswer {
-    Refused(u8),
-    Done,
+// A message accepted. `second` is how many octets of the container's message stand in the second output.
+#[derive(Clone, Copy, Debug, PartialEq, Eq)]
+pub struct Opened {
+    pub message: Received,
+    pub second: usize,
 }
 
-#[derive(Clone, Copy)]
-pub struct ChangeDone {
-    pub answer: ChangeAnswer,
-    pub context: Context,
+// An EPS message of a UE that goes from 5GS to EPS.
+#[derive(Clone, Copy, Debug, PartialEq, Eq)]
+pub struct EpsReceived {
+    pub count: u32,
+    pub distance: u32,
+    pub wrote: usize,
 }
 
-// A call that uses a COUNT: it answers it, and how many octets it wrote.
-#[derive(Clone, Copy)]
-pub enum UseAnswer {
-    Refused(u8),
-    Used { count: u32, wrote: usize },
-}
-
-#[derive(Clone, Copy)]
-pub struct UseDone {
-    pub answer: UseAnswer,
-    pub context: Context,
-}
-
-// A message opened: the distance says how many COUNTs a forward one skipped, or how far below the highest used a late one lies.
-// `second` is how many octets of the container's message stand in the second output. `Content` is refusal 8 and has the number that it carries.
-#[derive(Clone, Copy)]
-pub enum OpenAnswer {
-    Refused(u8),
-    Accepted {
-        count: u32,
-        distance: u32,
-        wrote: usize,
-        header_type: u8,
-        second: usize,
-    },
-    Content {
-        count: u32,
-        distance: u32,
-        wrote: usize,
-        header_type: u8,
-        number: u8,
-    },
-}
-
-#[derive(Clone, Copy)]
-pub struct OpenDone {
-    pub answer: OpenAnswer,
-    pub context: Context,
-}
-
-#[derive(Clone, Copy)]
-pub enum EpsOpenAnswer {
-    Refused(u8),
-    Accepted {
-        count: u32,
-        distance: u32,
-        wrote: usize,
-    },
-    Content {
-        count: u32,
-        distance: u32,
-        wrote: usize,
-        number: u8,
-    },
-}
-
-#[derive(Clone, Copy)]
-pub struct EpsOpenDone {
-    pub answer: EpsOpenAnswer,
-    pub context: Context,
+// `Content` is refusal 8: the COUNT of a message M is used and its plaintext handed over, and the content is refused as it says.
+#[derive(Clone, Copy, Debug, PartialEq, Eq)]
+pub enum OpenError<M> {
+    Refused(Refusal),
+    Content(M, Refusal),
 }
 
 // The N1-to-S1 container made: its one octet.
-#[derive(Clone, Copy)]
-pub enum OctetAnswer {
-    Refused(u8),
-    Made { count: u32, octet: u8 },
-}
-
-#[derive(Clone, Copy)]
-pub struct OctetDone {
-    pub answer: OctetAnswer,
-    pub context: Context,
+#[derive(Clone, Copy, Debug, PartialEq, Eq)]
+pub struct MadeOctet {
+    pub count: u32,
+    pub octet: u8,
 }
 
 // The N1-to-S1 container verified: it writes nothing.
-#[derive(Clone, Copy)]
-pub enum VerifyAnswer {
-    Refused(u8),
-    Verified { count: u32, distance: u32 },
+#[derive(Clone, Copy, Debug, PartialEq, Eq)]
+pub struct Reached {
+    pub count: u32,
+    pub distance: u32,
 }
 
-#[derive(Clone, Copy)]
-pub struct VerifyDone {
-    pub answer: VerifyAnswer,
-    pub context: Context,
-}
-
-fn direction_number(direction: Direction) -> u8
-    ensures { result ≡ direction_no direction }
-{
-    match direction {
-        Direction::Uplink => 0,
-        Direction::Downlink => 1,
+impl Direction {
+    fn number(self) -> u8
+        ensures { result ≡ direction_no self }
+    {
+        match self {
+            Direction::Uplink => 0,
+            Direction::Downlink => 1,
+        }
     }
 }
 
-fn bearer_number(connection: Connection) -> u8
-    ensures { result ≡ bearer_no connection }
-{
-    match connection {
-        Connection::ThreeGpp => 1,
-        Connection::Non3Gpp => 2,
+impl Connection {
+    fn bearer(self) -> u8
+        ensures { result ≡ bearer_no self }
+    {
+        match self {
+            Connection::ThreeGpp => 1,
+            Connection::Non3Gpp => 2,
+        }
     }
 }
 
 fn place(direction: Direction, connection: Connection) -> usize
     ensures { (result ≡ place_of direction connection) × (result < 4) }
 {
-    match direction {
-        Direction::Uplink => match connection {
-            Connection::ThreeGpp => 0,
-            Connection::Non3Gpp => 2,
-        },
-        Direction::Downlink => match connection {
-            Connection::ThreeGpp => 1,
-            Connection::Non3Gpp => 3,
-        },
+    match (direction, connection) {
+        (Direction::Uplink, Connection::ThreeGpp) => 0,
+        (Direction::Downlink, Connection::ThreeGpp) => 1,
+        (Direction::Uplink, Connection::Non3Gpp) => 2,
+        (Direction::Downlink, Connection::Non3Gpp) => 3,
     }
-}
-
-// Whether a next COUNT is none: above 16,777,216.
-fn any_over(a: u32, b: u32, c: u32, d: u32) -> bool
-    ensures { result ≡ any_over (a ∷ b ∷ c ∷ d ∷ []) }
-{
-    if count::EXHAUSTED < a {
-        return true;
-    }
-    if count::EXHAUSTED < b {
-        return true;
-    }
-    if count::EXHAUSTED < c {
-        return true;
-    }
-    count::EXHAUSTED < d
 }
 
 impl Context {
@@ -200,24 +120,22 @@ impl Context {
         next
     }
 
-    // Refusals 13, 14 and 16 of what the context holds, and 0 for none.
-    fn fault(self) -> u8
-        ensures { result ≡ fault_of self }
+    // What is answered where nothing is used: the context goes back as it came.
+    fn unchanged<A>(self, answer: A) -> Done<A, Context>
+        ensures { (result.answer ≡ answer) × (result.context ≡ self) }
     {
-        let core = self.core;
-        let n = core.fault();
-        if n != 0 {
-            return n;
+        Done {
+            answer,
+            context: self,
         }
-        if any_over(
-            self.records[0].next,
-            self.records[1].next,
-            self.records[2].next,
-            self.records[3].next,
-        ) {
-            return 16;
-        }
-        0
+    }
+
+    // Refusals 13, 14 and 16 of what the context holds.
+    fn check(self) -> Result<(), Refusal>
+        ensures { refused result ≡ fault_of self }
+    {
+        let [a, b, c, d] = self.records;
+        self.core.check_with(&[a.next, b.next, c.next, d.next])
     }
 
     // The COUNT used forward in the record at p.

@@ -1,108 +1,89 @@
 // Opening 5GS messages.
-ghost use Rattle.std.specs.Prelude.{◌≡◌, ◌-◌, ◌≤◌, ◌<◌, length};
+ghost use Rattle.std.specs.Prelude.{◌≡◌, ℕ, ◌-◌, ◌≤◌, ◌<◌, length, Ok};
+ghost use Rattle.refusals.specs.Numbers.{refused};
 ghost use Rattle.look.specs.Look.{look_of};
-ghost use Rattle.initial.specs.Inside.{Hidden};
-ghost use Rattle.envelope.specs.Initial.{beside_of, beside, told};
+ghost use Rattle.envelope.specs.Initial.{beside_of, beside};
+ghost use Rattle.nas_5gs.specs.Places.{direction_no, bearer_no, place_of};
+ghost use Rattle.nas_5gs.specs.OpenAnswer.{told_open};
 ghost use Rattle.nas_5gs.specs.Leaves.{leaves_two, over};
 ghost use Rattle.nas_5gs.specs.Open.{type_of, open_refusal, room_for, inside_number, open_answer, opened, open_of};
 
-use crate::{Connection, Context, Direction, OpenAnswer, OpenDone};
-use count::Opening;
-use envelope::Inside;
-use nas_core::Core;
+use crate::{Connection, Context, Direction, OpenError, Opened};
+use aes::Input;
+use count::Taken;
+use nas_core::{Core, Done, Received};
+use refusals::Refusal;
 
 // The room that a message may take: that of the shorter output where a second one is needed.
 fn room_for(direction: u8, message: &[u8], room: usize, second: usize) -> usize
     ensures { result ≡ room_for (type_of message.now) direction room second }
 {
-    if message.len() < 2 {
-        return room;
+    if 2 <= message.len() && message[1] % 16 == 1 && direction == 0 {
+        return room.min(second);
     }
-    if message[1] % 16 != 1 {
-        return room;
-    }
-    if direction != 0 {
-        return room;
-    }
-    if room < second {
-        return room;
-    }
-    second
+    room
 }
 
-// The answer of a message that the look passes, by what is inside it.
-fn answered(count: u32, distance: u32, wrote: usize, header_type: u8, inside: Inside) -> OpenAnswer
-    ensures { (h : Hidden) → inside ≡ told h → result ≡ open_answer count distance wrote header_type (inside_number 0 h) (length (beside h)) }
+// What is inside a plaintext: refused, or how many octets of the container's message went to the second output.
+fn read_inside(
+    core: Core,
+    header_type: u8,
+    input: Input,
+    plain: &[u8],
+    second: &mut [u8],
+) -> Result<usize, Refusal>
+    requires { header_type ≡ 1 → input.direction ≡ 0 → length plain.now ≤ length second.old }
+    ensures number { refused result ≡ inside_number (look_of header_type input.direction plain.now) (beside_of core header_type input.count input.bearer input.direction plain.now) }
+    ensures handed { (n : ℕ) → result ≡ Ok n → n ≡ length (beside (beside_of core header_type input.count input.bearer input.direction plain.now)) }
+    ensures wrote { second.new ≡ over (beside (beside_of core header_type input.count input.bearer input.direction plain.now)) second.old }
 {
-    match inside {
-        Inside::Refused => OpenAnswer::Content {
-            count,
-            distance,
-            wrote,
-            header_type,
-            number: 18,
-        },
-        Inside::Handed(second) => OpenAnswer::Accepted {
-            count,
-            distance,
-            wrote,
-            header_type,
-            second,
-        },
-    }
+    look::look(header_type, input.direction, plain)?;
+    envelope::read_beside(core, header_type, input, plain, second)
 }
 
 // The plaintext is looked at, and the message of its container goes to the second output.
 fn hand(
     core: Core,
     header_type: u8,
-    count: u32,
+    input: Input,
     distance: u32,
-    bearer: u8,
-    direction: u8,
     plain: &[u8],
     second: &mut [u8],
-) -> OpenAnswer
-    requires { header_type ≡ 1 → direction ≡ 0 → length plain.now ≤ length second.old }
-    ensures answer { result ≡ open_answer count distance (length plain.now) header_type (inside_number (look_of header_type direction plain.now) (beside_of core header_type count bearer direction plain.now)) (length (beside (beside_of core header_type count bearer direction plain.now))) }
-    ensures wrote { second.new ≡ over (beside (beside_of core header_type count bearer direction plain.now)) second.old }
+) -> Result<Opened, OpenError<Received>>
+    requires { header_type ≡ 1 → input.direction ≡ 0 → length plain.now ≤ length second.old }
+    ensures answer { told_open result ≡ open_answer input.count distance (length plain.now) header_type (inside_number (look_of header_type input.direction plain.now) (beside_of core header_type input.count input.bearer input.direction plain.now)) (length (beside (beside_of core header_type input.count input.bearer input.direction plain.now))) }
+    ensures wrote { second.new ≡ over (beside (beside_of core header_type input.count input.bearer input.direction plain.now)) second.old }
 {
-    let wrote = plain.len();
-    let number = look::look(header_type, direction, plain);
-    if number != 0 {
-        return OpenAnswer::Content {
-            count,
-            distance,
-            wrote,
-            header_type,
-            number,
-        };
+    let message = Received {
+        count: input.count,
+        distance,
+        wrote: plain.len(),
+        header_type,
+    };
+    match read_inside(core, header_type, input, plain, second) {
+        Ok(second) => Ok(Opened { message, second }),
+        Err(refusal) => Err(OpenError::Content(message, refusal)),
     }
-    let inside = envelope::read_beside(core, header_type, count, bearer, direction, plain, second);
-    answered(count, distance, wrote, header_type, inside)
 }
 
 impl Context {
-    fn open_refusal(self, message: &[u8], room: usize) -> u8
-        ensures { result ≡ open_refusal self message.now room }
+    fn check_open(self, message: &[u8], room: usize) -> Result<(), Refusal>
+        ensures { refused result ≡ open_refusal self message.now room }
     {
-        let n = self.fault();
-        if n != 0 {
-            return n;
-        }
+        self.check()?;
         if message.len() < 7 {
-            return 1;
+            return Err(Refusal::TooShort);
         }
         if message[0] != 0x7e {
-            return 2;
+            return Err(Refusal::WrongFirstOctet);
         }
         if nas_core::is_wrong_type(message[1] % 16) {
-            return 3;
+            return Err(Refusal::WrongHeaderType);
         }
         if message.len() == 7 {
-            return 1;
+            return Err(Refusal::TooShort);
         }
-        nas_core::hand_refusal(envelope::HEADER, message.len(), room)
+        nas_core::check_handing(envelope::HEADER, message.len(), room)
     }
 
     fn receive(
@@ -113,9 +94,9 @@ impl Context {
         message: &[u8],
         out: &mut [u8],
         second: &mut [u8],
-    ) -> OpenDone
+    ) -> Done<Result<Opened, OpenError<Received>>, Context>
         requires { (p < 4) × (self.core.size ≤ 64) × (7 ≤ length message.now) × (length message.now - 7 ≤ length out.old) × (type_of message.now ≡ 1 → direction ≡ 0 → length message.now - 7 ≤ length second.old) }
-        ensures { leaves_two result.answer result.context out.new second.new ≡ opened self p bearer direction message.now out.old second.old }
+        ensures { leaves_two (told_open result.answer) result.context out.new second.new ≡ opened self p bearer direction message.now out.old second.old }
     {
         let core = self.core;
         let rec = self.records[p];
@@ -123,28 +104,29 @@ impl Context {
         let n = message.len() - envelope::HEADER;
         let choice = envelope::read(core, rec, t, bearer, direction, message, out);
         match choice {
-            Opening::None => OpenDone {
-                answer: OpenAnswer::Refused(6),
-                context: self,
-            },
-            Opening::Wrong => OpenDone {
-                answer: OpenAnswer::Refused(7),
-                context: self,
-            },
-            Opening::Late(c) => {
-                let far = rec.distance_to(c);
-                let answer = hand(core, t, c, far, bearer, direction, &out[..n], second);
-                OpenDone {
-                    answer,
-                    context: self.used_late(p, c),
+            Err(missed) => self.unchanged(Err(OpenError::Refused(Refusal::from(missed)))),
+            Ok(Taken::Late(count)) => {
+                let input = Input {
+                    count,
+                    bearer,
+                    direction,
+                };
+                let far = rec.distance_to(count);
+                Done {
+                    answer: hand(core, t, input, far, &out[..n], second),
+                    context: self.used_late(p, count),
                 }
             }
-            Opening::Forward(c) => {
-                let far = rec.distance_to(c);
-                let answer = hand(core, t, c, far, bearer, direction, &out[..n], second);
-                OpenDone {
-                    answer,
-                    context: self.used(p, c),
+            Ok(Taken::Forward(count)) => {
+                let input = Input {
+                    count,
+                    bearer,
+                    direction,
+                };
+                let far = rec.distance_to(count);
+                Done {
+                    answer: hand(core, t, input, far, &out[..n], second),
+                    context: self.used(p, count),
                 }
             }
         }
@@ -158,18 +140,17 @@ impl Context {
         message: &[u8],
         out: &mut [u8],
         second: &mut [u8],
-    ) -> OpenDone
-        ensures { leaves_two result.answer result.context out.new second.new ≡ open_of self direction connection message.now out.old second.old }
+    ) -> Done<Result<Opened, OpenError<Received>>, Context>
+        ensures { leaves_two (told_open result.answer) result.context out.new second.new ≡ open_of self direction connection message.now out.old second.old }
     {
-        let d = crate::direction_number(direction);
-        let n = self.open_refusal(message, room_for(d, message, out.len(), second.len()));
-        if n != 0 {
-            return OpenDone {
-                answer: OpenAnswer::Refused(n),
-                context: self,
-            };
+        let d = direction.number();
+        let room = room_for(d, message, out.len(), second.len());
+        match self.check_open(message, room) {
+            Err(refusal) => self.unchanged(Err(OpenError::Refused(refusal))),
+            Ok(()) => {
+                let p = crate::place(direction, connection);
+                self.receive(p, connection.bearer(), d, message, out, second)
+            }
         }
-        let p = crate::place(direction, connection);
-        self.receive(p, crate::bearer_number(connection), d, message, out, second)
     }
 }

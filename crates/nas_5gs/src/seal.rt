@@ -1,73 +1,89 @@
 // Sealing 5GS messages.
 ghost use Rattle.std.specs.Prelude.{◌≡◌, ◌+◌, ◌≤◌, ◌<◌, length};
+ghost use Rattle.refusals.specs.Numbers.{refused};
 ghost use Rattle.count.specs.Rule.{exhausted};
 ghost use Rattle.initial.specs.Messages.{mandatory_length};
 ghost use Rattle.initial.specs.Outer.{outer_length};
-ghost use Rattle.nas_5gs.specs.Places.{next_at};
+ghost use Rattle.nas_core.specs.UseAnswer.{told_use};
+ghost use Rattle.nas_5gs.specs.declared.Direction.TheVariants.{Uplink};
+ghost use Rattle.nas_5gs.specs.Places.{direction_no, bearer_no, place_of, next_at};
 ghost use Rattle.nas_5gs.specs.Leaves.{leaves};
 ghost use Rattle.nas_5gs.specs.Seal.{seal_refusal, opaque_refusal, sent, seal_of, seal_opaque_of};
 ghost use Rattle.nas_5gs.specs.Initial.{initial_refusal, sent_initial, initial_of};
 
-use crate::{Connection, Context, Direction, UseAnswer, UseDone};
+use crate::{Connection, Context, Direction};
+use aes::Input;
+use nas_core::{Done, Spent};
+use refusals::Refusal;
 
 impl Context {
-    fn seal_refusal(self, header_type: u8, p: usize, direction: u8, inner: &[u8], room: usize) -> u8
-        requires { p < 4 }
-        ensures { result ≡ seal_refusal self header_type p direction inner.now room }
+    fn check_seal(
+        self,
+        header_type: u8,
+        direction: Direction,
+        connection: Connection,
+        inner: &[u8],
+        room: usize,
+    ) -> Result<(), Refusal>
+        ensures { refused result ≡ seal_refusal self header_type (place_of direction connection) (direction_no direction) inner.now room }
     {
-        let n = self.fault();
-        if n != 0 {
-            return n;
-        }
+        self.check()?;
         if look::not_known(inner) {
-            return 9;
+            return Err(Refusal::NotKnown);
         }
         if nas_core::is_wrong_type(header_type) {
-            return 3;
+            return Err(Refusal::WrongHeaderType);
         }
         if look::not_together(header_type, inner) {
-            return 10;
+            return Err(Refusal::NotTogether);
         }
-        if look::wrong_way(direction, inner) {
-            return 11;
+        if look::wrong_way(direction.number(), inner) {
+            return Err(Refusal::WrongWay);
         }
-        let next = self.records[p].next;
-        nas_core::send_refusal(envelope::HEADER, inner.len(), room, next)
+        let next = self.next_count(direction, connection);
+        nas_core::check_sending(envelope::HEADER, inner.len(), room, next)
     }
 
-    fn opaque_refusal(self, header_type: u8, p: usize, inner: &[u8], room: usize) -> u8
-        requires { p < 4 }
-        ensures { result ≡ opaque_refusal self header_type p inner.now room }
+    fn check_opaque(
+        self,
+        header_type: u8,
+        direction: Direction,
+        connection: Connection,
+        inner: &[u8],
+        room: usize,
+    ) -> Result<(), Refusal>
+        ensures { refused result ≡ opaque_refusal self header_type (place_of direction connection) inner.now room }
     {
-        let n = self.fault();
-        if n != 0 {
-            return n;
-        }
+        self.check()?;
         if nas_core::is_wrong_type(header_type) {
-            return 3;
+            return Err(Refusal::WrongHeaderType);
         }
-        let next = self.records[p].next;
-        nas_core::send_refusal(envelope::HEADER, inner.len(), room, next)
+        let next = self.next_count(direction, connection);
+        nas_core::check_sending(envelope::HEADER, inner.len(), room, next)
     }
 
     fn send(
         self,
         header_type: u8,
-        p: usize,
-        bearer: u8,
-        direction: u8,
+        direction: Direction,
+        connection: Connection,
         inner: &[u8],
         out: &mut [u8],
-    ) -> UseDone
-        requires { (p < 4) × (self.core.size ≤ 64) × (next_at self p < exhausted) × (7 + length inner.now ≤ length out.old) }
-        ensures { leaves result.answer result.context out.new ≡ sent self header_type p bearer direction inner.now out.old }
+    ) -> Done<Result<Spent, Refusal>, Context>
+        requires { (self.core.size ≤ 64) × (next_at self (place_of direction connection) < exhausted) × (7 + length inner.now ≤ length out.old) }
+        ensures { leaves (told_use result.answer) result.context out.new ≡ sent self header_type (place_of direction connection) (bearer_no connection) (direction_no direction) inner.now out.old }
     {
-        let count = self.records[p].next;
+        let count = self.next_count(direction, connection);
+        let input = Input {
+            count,
+            bearer: connection.bearer(),
+            direction: direction.number(),
+        };
         let wrote = envelope::HEADER + inner.len();
-        envelope::put(self.core, header_type, count, bearer, direction, inner, out);
-        UseDone {
-            answer: UseAnswer::Used { count, wrote },
-            context: self.used(p, count),
+        envelope::put(self.core, header_type, input, inner, out);
+        Done {
+            answer: Ok(Spent { count, wrote }),
+            context: self.used(crate::place(direction, connection), count),
         }
     }
 
@@ -79,26 +95,13 @@ impl Context {
         connection: Connection,
         inner: &[u8],
         out: &mut [u8],
-    ) -> UseDone
-        ensures { leaves result.answer result.context out.new ≡ seal_of self header_type direction connection inner.now out.old }
+    ) -> Done<Result<Spent, Refusal>, Context>
+        ensures { leaves (told_use result.answer) result.context out.new ≡ seal_of self header_type direction connection inner.now out.old }
     {
-        let p = crate::place(direction, connection);
-        let d = crate::direction_number(direction);
-        let n = self.seal_refusal(header_type, p, d, inner, out.len());
-        if n != 0 {
-            return UseDone {
-                answer: UseAnswer::Refused(n),
-                context: self,
-            };
+        match self.check_seal(header_type, direction, connection, inner, out.len()) {
+            Err(refusal) => self.unchanged(Err(refusal)),
+            Ok(()) => self.send(header_type, direction, connection, inner, out),
         }
-        self.send(
-            header_type,
-            p,
-            crate::bearer_number(connection),
-            d,
-            inner,
-            out,
-        )
     }
 
     // Any inner octets.
@@ -109,74 +112,62 @@ impl Context {
         connection: Connection,
         inner: &[u8],
         out: &mut [u8],
-    ) -> UseDone
-        ensures { leaves result.answer result.context out.new ≡ seal_opaque_of self header_type direction connection inner.now out.old }
+    ) -> Done<Result<Spent, Refusal>, Context>
+        ensures { leaves (told_use result.answer) result.context out.new ≡ seal_opaque_of self header_type direction connection inner.now out.old }
     {
-        let p = crate::place(direction, connection);
-        let d = crate::direction_number(direction);
-        let n = self.opaque_refusal(header_type, p, inner, out.len());
-        if n != 0 {
-            return UseDone {
-                answer: UseAnswer::Refused(n),
-                context: self,
-            };
+        match self.check_opaque(header_type, direction, connection, inner, out.len()) {
+            Err(refusal) => self.unchanged(Err(refusal)),
+            Ok(()) => self.send(header_type, direction, connection, inner, out),
         }
-        self.send(
-            header_type,
-            p,
-            crate::bearer_number(connection),
-            d,
-            inner,
-            out,
-        )
     }
 
-    fn initial_refusal(self, p: usize, whole: &[u8], room: usize) -> u8
-        requires { p < 4 }
-        ensures { result ≡ initial_refusal self p whole.now room }
+    fn check_initial(self, connection: Connection, whole: &[u8], room: usize) -> Result<(), Refusal>
+        ensures { refused result ≡ initial_refusal self (place_of Uplink connection) whole.now room }
     {
-        let n = self.fault();
-        if n != 0 {
-            return n;
-        }
+        self.check()?;
         if !initial::is_initial(whole) {
-            return 9;
+            return Err(Refusal::NotKnown);
         }
         if !initial::is_hideable(whole) {
-            return 18;
+            return Err(Refusal::Container);
         }
         if nas_core::LIMIT < whole.len() {
-            return 4;
+            return Err(Refusal::TooLong);
         }
-        let next = self.records[p].next;
-        nas_core::send_refusal(envelope::HEADER, initial::outer_length(whole), room, next)
+        let next = self.next_count(Direction::Uplink, connection);
+        nas_core::check_sending(envelope::HEADER, initial::outer_length(whole), room, next)
     }
 
-    fn send_initial(self, p: usize, bearer: u8, whole: &[u8], out: &mut [u8]) -> UseDone
-        requires { (p < 4) × (self.core.size ≤ 64) × (next_at self p < exhausted) × (mandatory_length whole.now ≤ length whole.now) × (length whole.now ≤ 65535) × (7 + outer_length whole.now ≤ length out.old) }
-        ensures { leaves result.answer result.context out.new ≡ sent_initial self p bearer whole.now out.old }
+    fn send_initial(
+        self,
+        connection: Connection,
+        whole: &[u8],
+        out: &mut [u8],
+    ) -> Done<Result<Spent, Refusal>, Context>
+        requires { (self.core.size ≤ 64) × (next_at self (place_of Uplink connection) < exhausted) × (mandatory_length whole.now ≤ length whole.now) × (length whole.now ≤ 65535) × (7 + outer_length whole.now ≤ length out.old) }
+        ensures { leaves (told_use result.answer) result.context out.new ≡ sent_initial self (place_of Uplink connection) (bearer_no connection) whole.now out.old }
     {
-        let count = self.records[p].next;
+        let count = self.next_count(Direction::Uplink, connection);
         let wrote = envelope::HEADER + initial::outer_length(whole);
-        envelope::put_initial(self.core, count, bearer, whole, out);
-        UseDone {
-            answer: UseAnswer::Used { count, wrote },
-            context: self.used(p, count),
+        envelope::put_initial(self.core, count, connection.bearer(), whole, out);
+        Done {
+            answer: Ok(Spent { count, wrote }),
+            context: self.used(crate::place(Direction::Uplink, connection), count),
         }
     }
 
     // An initial message, whole: what is not cleartext goes out in its container.
-    pub fn initial(self, connection: Connection, whole: &[u8], out: &mut [u8]) -> UseDone
-        ensures { leaves result.answer result.context out.new ≡ initial_of self connection whole.now out.old }
+    pub fn initial(
+        self,
+        connection: Connection,
+        whole: &[u8],
+        out: &mut [u8],
+    ) -> Done<Result<Spent, Refusal>, Context>
+        ensures { leaves (told_use result.answer) result.context out.new ≡ initial_of self connection whole.now out.old }
     {
-        let p = crate::place(Direction::Uplink, connection);
-        let n = self.initial_refusal(p, whole, out.len());
-        if n != 0 {
-            return UseDone {
-                answer: UseAnswer::Refused(n),
-                context: self,
-            };
+        match self.check_initial(connection, whole, out.len()) {
+            Err(refusal) => self.unchanged(Err(refusal)),
+            Ok(()) => self.send_initial(connection, whole, out),
         }
-        self.send_initial(p, crate::bearer_number(connection), whole, out)
     }
 }

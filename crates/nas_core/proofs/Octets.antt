@@ -54,7 +54,7 @@ pub over-front : (n : ℕ) (ys p out : List ℕ) → ys ≡ p → length ys ≡ 
 over-front n ys p out y l = let m : n ≡ length p = sym l ∙ ap (λ (q : List ℕ). length q) y in simp (y, m)
 
 abbrev word : ℕ → ℕ → ℕ → ℕ → ℕ
-word a b c d = ((a * 256 + b) * 256 + c) * 256 + d
+word a b c d = a * 16777216 + b * 65536 + c * 256 + d
 
 -- four octets are those of another four where the numbers are equal
 pub compared : (a b c d e f g h : ℕ) → a < 256 → b < 256 → c < 256 → d < 256 → e < 256 → f < 256 → g < 256 → h < 256

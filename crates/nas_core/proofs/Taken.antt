@@ -1,3 +1,4 @@
+use Rattle.std.specs.Prelude.{Ok, Err}
 -- A received code and what is behind it: where both algorithms are AES, in the words of the algorithms by their codes; and at the front of an output.
 use mathlib.Core.Path.{◌≡◌, ap, ap₂, sym, ◌∙◌}
 use mathlib.Core.Bool.{Bool, true}
@@ -10,8 +11,9 @@ use Rattle.algorithms.specs.Codes.{code_of, cipher_of}
 use Rattle.nas_core.specs.declared.Core.{Core}
 use Rattle.nas_core.specs.Keyed.{wraps, code_by, payload}
 use Rattle.nas_core.specs.Verify.{same, fits}
-use Rattle.count.specs.declared.Opening.{Opening}
-use Rattle.count.specs.declared.Opening.TheVariants.{None, Wrong, Late, Forward}
+use Rattle.count.specs.Rule.{Opening}
+use Rattle.count.specs.declared.Taken.TheVariants.{Late, Forward}
+use Rattle.count.specs.declared.Missed.TheVariants.{NoCandidate, WrongCode}
 use Rattle.nas_core.specs.Leaves.{over, read_as}
 use Rattle.nas_core.proofs.Octets.{rest, over-front}
 
@@ -39,7 +41,7 @@ read-aes x c b d m e = rw e
 -- what was read to the front of an output that was lent, put back in its place
 pub front_read : (f : ℕ → List ℕ) (n : ℕ) (out ys : List ℕ) (r : Opening) → ((c : ℕ) → length (f c) ≡ n) → ys ≡ read_as f (take n out) r
     → ys ++ drop n out ≡ read_as (λ c. over (f c) out) out r
-front_read f n out ys None l e = ap (λ (z : List ℕ). z ++ drop n out) e ∙ take-append-drop n out
-front_read f n out ys Wrong l e = ap (λ (z : List ℕ). z ++ drop n out) e ∙ take-append-drop n out
-front_read f n out ys (Late c) l e = over-front n ys (f c) out e (ap length e ∙ l c)
-front_read f n out ys (Forward c) l e = over-front n ys (f c) out e (ap length e ∙ l c)
+front_read f n out ys (Err NoCandidate) l e = ap (λ (z : List ℕ). z ++ drop n out) e ∙ take-append-drop n out
+front_read f n out ys (Err WrongCode) l e = ap (λ (z : List ℕ). z ++ drop n out) e ∙ take-append-drop n out
+front_read f n out ys (Ok (Late c)) l e = over-front n ys (f c) out e (ap length e ∙ l c)
+front_read f n out ys (Ok (Forward c)) l e = over-front n ys (f c) out e (ap length e ∙ l c)

@@ -1,7 +1,8 @@
 -- What a call leaves, whatever the context X that it is made on, and document 01's values for its answer ("Refusal numbers").
-use Rattle.std.specs.Prelude.{ℕ, Bool, true, false, List, ◌++◌, length, drop}
-use Rattle.count.specs.declared.Opening.{Opening}
-use Rattle.count.specs.declared.Opening.TheVariants.{None, Wrong, Late, Forward}
+use Rattle.std.specs.Prelude.{ℕ, Bool, true, false, List, ◌++◌, length, drop, Ok, Err}
+use Rattle.count.specs.Rule.{Opening}
+use Rattle.count.specs.declared.Taken.TheVariants.{Late, Forward}
+use Rattle.count.specs.declared.Missed.TheVariants.{NoCandidate, WrongCode}
 
 -- the answer, the context handed back, and the lent output: no octets where none is lent
 pub data Leaves (X A : Type 0) : Type 0 where
@@ -17,17 +18,17 @@ used_with says used c octets out = leaves (says c (length octets)) (used c) (ove
 
 -- a received message by what it is taken as: 6, 7, or its COUNT used, forward or late, and what it carries handed over
 abbrev pub received_as : {X R : Type 0} → (ℕ → X) → (ℕ → X) → (ℕ → R) → (ℕ → X → R) → Opening → R
-received_as used used_late refused handed None = refused 6
-received_as used used_late refused handed Wrong = refused 7
-received_as used used_late refused handed (Late c) = handed c (used_late c)
-received_as used used_late refused handed (Forward c) = handed c (used c)
+received_as used used_late refused handed (Err NoCandidate) = refused 6
+received_as used used_late refused handed (Err WrongCode) = refused 7
+received_as used used_late refused handed (Ok (Late c)) = handed c (used_late c)
+received_as used used_late refused handed (Ok (Forward c)) = handed c (used c)
 
 -- an output after that: what it carries, read under its COUNT, where one is used
 abbrev pub read_as : (ℕ → List ℕ) → List ℕ → Opening → List ℕ
-read_as carried out None = out
-read_as carried out Wrong = out
-read_as carried out (Late c) = carried c
-read_as carried out (Forward c) = carried c
+read_as carried out (Err NoCandidate) = out
+read_as carried out (Err WrongCode) = out
+read_as carried out (Ok (Late c)) = carried c
+read_as carried out (Ok (Forward c)) = carried c
 
 -- the values: whether it is a refusal, and its number, 0 for a success; the others are 0 where the answer has none
 pub record Values : Type 0 where

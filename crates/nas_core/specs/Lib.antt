@@ -1,3 +1,5 @@
+pub mod ChangeAnswer
+pub mod UseAnswer
 pub mod Refusals
 pub mod Types
 pub mod Keyed

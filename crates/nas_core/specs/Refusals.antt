@@ -25,6 +25,10 @@ abbrev pub any_over : List ℕ → Bool
 any_over [] = false
 any_over (n ∷ l) = ltb exhausted n || any_over l
 
+-- what a context holds, with the next COUNTs of its records: 13, 14, 16
+abbrev pub held_refusals : Core → List ℕ → List ℕ
+held_refusals x next = core_fault x ∷ 16 when any_over next ∷ []
+
 -- sending n octets behind a header in an output of so many octets, with the next COUNT: 4, 5, 6
 abbrev pub send_refusals : ℕ → ℕ → ℕ → ℕ → List ℕ
 send_refusals header n room next =

@@ -2,7 +2,7 @@
 use Rattle.std.specs.Prelude.{ℕ, ◌+◌, Bool, true, false, cond, ◌&&◌, ◌||◌, List, [], ◌∷◌, get_or, take, drop, eqb}
 use Rattle.count.specs.Rule.{opening, use_forward, use_round}
 use Rattle.count.specs.declared.Record.{Record}
-use Rattle.count.specs.declared.Opening.{Opening}
+use Rattle.count.specs.Rule.{Opening}
 use Rattle.nas_core.specs.declared.Core.{Core}
 use Rattle.nas_core.specs.Keyed.{wraps, code_by}
 

@@ -6,8 +6,7 @@ use Rattle.nas_core.specs.Keyed.{away_from_null, core_with}
 use Rattle.nas_core.specs.Refusals.{unbuilt, any_over}
 use Rattle.aes.specs.Keys.{key_of}
 use Rattle.nas_eps.specs.declared.Context.{Context}
-use Rattle.nas_eps.specs.declared.ChangeAnswer.{ChangeAnswer}
-use Rattle.nas_eps.specs.declared.ChangeAnswer.TheVariants.{Refused, Done}
+use Rattle.nas_core.specs.ChangeAnswer.{ChangeAnswer, Refused, Done}
 use Rattle.nas_eps.specs.Places.{record_at, two, fault_of}
 use Rattle.nas_eps.specs.Leaves.{Leaves, leaves}
 

@@ -1,15 +1,15 @@
 -- What a call on an EPS context leaves, and document 01's values for each answer ("Refusal numbers").
 use Rattle.std.specs.Prelude.{ℕ, true, false, List}
-use Rattle.count.specs.declared.Opening.{Opening}
+use Rattle.count.specs.Rule.{Opening}
 use Rattle.nas_core.specs.Leaves.{Leaves as LeavesOf, used_with, received_as}
 pub use Rattle.nas_core.specs.Leaves.{leaves, over, Values, refusal, success}
 use Rattle.nas_eps.specs.declared.Context.{Context}
-use Rattle.nas_eps.specs.declared.ChangeAnswer.{ChangeAnswer}
-use Rattle.nas_eps.specs.declared.ChangeAnswer.TheVariants as change
-use Rattle.nas_eps.specs.declared.UseAnswer.{UseAnswer}
-use Rattle.nas_eps.specs.declared.UseAnswer.TheVariants as use'
-use Rattle.nas_eps.specs.declared.OpenAnswer.{OpenAnswer}
-use Rattle.nas_eps.specs.declared.OpenAnswer.TheVariants as open'
+use Rattle.nas_core.specs.ChangeAnswer.{ChangeAnswer}
+use Rattle.nas_core.specs.ChangeAnswer as change
+use Rattle.nas_core.specs.UseAnswer.{UseAnswer}
+use Rattle.nas_core.specs.UseAnswer as use'
+use Rattle.nas_eps.specs.OpenAnswer.{OpenAnswer}
+use Rattle.nas_eps.specs.OpenAnswer as open'
 use Rattle.nas_eps.specs.Places.{next_at, used, used_late}
 
 abbrev pub Leaves : Type 0 → Type 0

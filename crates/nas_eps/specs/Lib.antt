@@ -1,3 +1,4 @@
+pub mod OpenAnswer
 pub mod Places
 pub mod Leaves
 pub mod Changes

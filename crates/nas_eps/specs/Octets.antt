@@ -2,7 +2,7 @@
 use Rattle.std.specs.Prelude.{ℕ, ◌+◌, ◌*◌, ◌/◌, ◌%◌, Bool, ◌||◌, List, [], ◌∷◌, ◌++◌, get_or, take, drop, eqb}
 use Rattle.count.specs.Rule.{forward_only}
 use Rattle.count.specs.declared.Record.{Record}
-use Rattle.count.specs.declared.Opening.{Opening}
+use Rattle.count.specs.Rule.{Opening}
 use Rattle.nas_core.specs.declared.Core.{Core}
 use Rattle.nas_core.specs.Types.{ciphers}
 use Rattle.nas_core.specs.Keyed.{wraps, code_by, payload, protected}

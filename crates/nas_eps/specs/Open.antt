@@ -8,8 +8,7 @@ use Rattle.nas_core.specs.Keyed.{payload}
 use Rattle.nas_core.specs.Verify.{verify_of}
 use Rattle.nas_eps.specs.declared.Direction.{Direction}
 use Rattle.nas_eps.specs.declared.Context.{Context}
-use Rattle.nas_eps.specs.declared.OpenAnswer.{OpenAnswer}
-use Rattle.nas_eps.specs.declared.OpenAnswer.TheVariants.{Refused, Accepted, ServiceRequest}
+use Rattle.nas_eps.specs.OpenAnswer.{OpenAnswer, Refused, Accepted, ServiceRequest}
 use Rattle.nas_eps.specs.Places.{downlink, place_of, record_at, fault_of}
 use Rattle.nas_eps.specs.Leaves.{Leaves, leaves, over, received}
 use Rattle.nas_eps.specs.Octets.{bearer, type_of, is_request, identifier_of, request_as}

@@ -6,8 +6,7 @@ use Rattle.nas_core.specs.Types.{wrong_type}
 use Rattle.nas_core.specs.Refusals.{send_refusals}
 use Rattle.nas_eps.specs.declared.Direction.{Direction}
 use Rattle.nas_eps.specs.declared.Context.{Context}
-use Rattle.nas_eps.specs.declared.UseAnswer.{UseAnswer}
-use Rattle.nas_eps.specs.declared.UseAnswer.TheVariants.{Refused}
+use Rattle.nas_core.specs.UseAnswer.{UseAnswer, Refused}
 use Rattle.nas_eps.specs.Places.{uplink, place_of, next_at, fault_of}
 use Rattle.nas_eps.specs.Leaves.{Leaves, leaves, use_next}
 use Rattle.nas_eps.specs.Octets.{message, service_request}

@@ -4,7 +4,7 @@
 ghost use Rattle.std.specs.Prelude.{◌≡◌, false, [], ◌∷◌, ◌+◌, ◌≤◌, ◌<◌};
 ghost use Rattle.count.specs.Rule.{exhausted};
 ghost use Rattle.nas_core.specs.Keyed.{wraps};
-ghost use Rattle.nas_core.specs.Refusals.{any_over};
+ghost use Rattle.refusals.specs.Numbers.{refused};
 ghost use Rattle.nas_eps.specs.Places.{place_of, record_at, with_record, fault_of, used, used_late};
 
 mod change;
@@ -14,9 +14,10 @@ mod request;
 mod seal;
 
 use count::Record;
-use nas_core::Core;
+use nas_core::{Core, Done, Received};
+use refusals::Refusal;
 
-#[derive(Clone, Copy)]
+#[derive(Clone, Copy, Debug, PartialEq, Eq)]
 pub enum Direction {
     Uplink,
     Downlink,
@@ -24,53 +25,17 @@ pub enum Direction {
 
 // Two records, uplink and downlink.
 #[repr(C)]
-#[derive(Clone, Copy)]
+#[derive(Clone, Copy, PartialEq, Eq)]
 pub struct Context {
     pub core: Core,
     pub records: [Record; 2],
 }
 
-// The record of SERVICE REQUESTs.
-const UPLINK: usize = 0;
-
-// Creation, restore, reselection and window size.
-#[derive(Clone, Copy)]
-pub enum ChangeAnswer {
-    Refused(u8),
-    Done,
-}
-
-#[derive(Clone, Copy)]
-pub struct ChangeDone {
-    pub answer: ChangeAnswer,
-    pub context: Context,
-}
-
-// A seal: the COUNT that it used, and how many octets it wrote.
-#[derive(Clone, Copy)]
-pub enum UseAnswer {
-    Refused(u8),
-    Used { count: u32, wrote: usize },
-}
-
-#[derive(Clone, Copy)]
-pub struct UseDone {
-    pub answer: UseAnswer,
-    pub context: Context,
-}
-
-// A message opened: the distance says how many COUNTs a forward one skipped, or how far below the highest used a late one lies.
-// A SERVICE REQUEST hands over no octet; which key set its identifier names is for the host to compare. Its code has 16 bits: one that is out of reach is
-// taken as another COUNT one time in 65,536.
-#[derive(Clone, Copy)]
-pub enum OpenAnswer {
-    Refused(u8),
-    Accepted {
-        count: u32,
-        distance: u32,
-        wrote: usize,
-        header_type: u8,
-    },
+// What was opened. A SERVICE REQUEST hands over no octet; which key set its identifier names is for the host to compare. Its code has 16 bits: one that is out
+// of reach is taken as another COUNT one time in 65,536.
+#[derive(Clone, Copy, Debug, PartialEq, Eq)]
+pub enum Opened {
+    Message(Received),
     ServiceRequest {
         count: u32,
         distance: u32,
@@ -78,30 +43,19 @@ pub enum OpenAnswer {
     },
 }
 
-#[derive(Clone, Copy)]
-pub struct OpenDone {
-    pub answer: OpenAnswer,
-    pub context: Context,
-}
+// The record of SERVICE REQUESTs.
+const UPLINK: usize = 0;
 
-// It is the place of the direction's record too.
-fn direction_number(direction: Direction) -> u8
-    ensures { (result ≡ place_of direction) × (result < 2) }
-{
-    match direction {
-        Direction::Uplink => 0,
-        Direction::Downlink => 1,
+impl Direction {
+    // It is the place of the direction's record too.
+    fn number(self) -> u8
+        ensures { (result ≡ place_of self) × (result < 2) }
+    {
+        match self {
+            Direction::Uplink => 0,
+            Direction::Downlink => 1,
+        }
     }
-}
-
-// Whether a next COUNT is none: above 16,777,216.
-fn any_over(a: u32, b: u32) -> bool
-    ensures { result ≡ any_over (a ∷ b ∷ []) }
-{
-    if count::EXHAUSTED < a {
-        return true;
-    }
-    count::EXHAUSTED < b
 }
 
 impl Context {
@@ -114,19 +68,22 @@ impl Context {
         next
     }
 
-    // Refusals 13, 14 and 16 of what the context holds, and 0 for none.
-    fn fault(self) -> u8
-        ensures { result ≡ fault_of self }
+    // What is answered where nothing is used: the context goes back as it came.
+    fn unchanged<A>(self, answer: A) -> Done<A, Context>
+        ensures { (result.answer ≡ answer) × (result.context ≡ self) }
     {
-        let core = self.core;
-        let n = core.fault();
-        if n != 0 {
-            return n;
+        Done {
+            answer,
+            context: self,
         }
-        if any_over(self.records[0].next, self.records[1].next) {
-            return 16;
-        }
-        0
+    }
+
+    // Refusals 13, 14 and 16 of what the context holds.
+    fn check(self) -> Result<(), Refusal>
+        ensures { refused result ≡ fault_of self }
+    {
+        let [up, down] = self.records;
+        self.core.check_with(&[up.next, down.next])
     }
 
     // The COUNT used forward in the record at p.

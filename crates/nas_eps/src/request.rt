@@ -5,9 +5,20 @@ ghost use Rattle.nas_eps.specs.Leaves.{over};
 ghost use Rattle.nas_eps.specs.Octets.{service_request, short_fits};
 
 use crate::octets;
+use aes::Input;
 use nas_core::Core;
 
 const DIRECTION: u8 = 0;
+
+fn input(count: u32) -> Input
+    ensures { result ≡ record { count = count; bearer = 0; direction = 0 } }
+{
+    Input {
+        count,
+        bearer: octets::BEARER,
+        direction: DIRECTION,
+    }
+}
 
 pub const LENGTH: usize = 4;
 
@@ -17,24 +28,18 @@ pub fn put(core: Core, identifier: u8, count: u32, out: &mut [u8])
 {
     out[0] = 0xc7;
     out[1] = identifier * 32 + (count % 32) as u8;
-    let code = core.code(count, octets::BEARER, DIRECTION, &out[..2]);
+    let code = core.code(input(count), &out[..2]);
     out[2] = code[2];
     out[3] = code[3];
 }
 
-// Two octets as one number, so that they are compared at once.
-fn short(a: u8, b: u8) -> u16
-    ensures { result ≡ a * 256 + b }
-{
-    a as u16 * 256 + b as u16
-}
-
+// The two octets are compared as one number, at once.
 fn is_short_code(code: [u8; 4], received: &[u8]) -> bool
     requires { length received.now ≡ 2 }
     ensures { result ≡ same received.now (drop 2 code) }
 {
-    let expected = short(code[2], code[3]);
-    short(received[0], received[1]) == expected
+    let stands = u16::from_be_bytes([received[0], received[1]]);
+    stands == u16::from_be_bytes([code[2], code[3]])
 }
 
 // Whether the code of a SERVICE REQUEST fits the COUNT.
@@ -45,6 +50,6 @@ pub fn fits(core: Core, count: u32, message: &[u8]) -> bool
     if core.wraps() {
         return true;
     }
-    let code = core.code(count, octets::BEARER, DIRECTION, &message[..2]);
+    let code = core.code(input(count), &message[..2]);
     is_short_code(code, &message[2..])
 }

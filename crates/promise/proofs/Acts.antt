@@ -1,4 +1,5 @@
 -- What calls on any context share: each does one act on one record, and answers the COUNT that it used.
+use Rattle.std.specs.Prelude.{Ok, Err}
 use Prim.Native.Nat.{ℕ}
 use mathlib.Core.Path.{◌≡◌, refl, sym, ap, ◌∙◌, subst}
 use mathlib.Core.Bool.{Bool, true, false, cond}
@@ -6,9 +7,9 @@ use mathlib.Core.List.{List, [], ◌∷◌}
 use lib.ListN.{length, set}
 use lib.Dec.{eqb}
 use Rattle.count.specs.declared.Record.{Record}
-use Rattle.count.specs.declared.Opening.{Opening}
-use Rattle.count.specs.declared.Opening.TheVariants.{Late, Forward, None, Wrong}
-use Rattle.count.specs.Rule.{use_late}
+use Rattle.count.specs.Rule.{Opening, use_late}
+use Rattle.count.specs.declared.Taken.TheVariants.{Late, Forward}
+use Rattle.count.specs.declared.Missed.TheVariants.{NoCandidate, WrongCode}
 use Rattle.count.specs.Run.{State, Act, stay, forward, round, use_by, act, act_of, used}
 use Rattle.count.specs.Machine.{state_at, records_after}
 use Rattle.refusals.specs.Order.{refused_or}
@@ -52,7 +53,7 @@ module _ {X : Type 0} (H : Holding X) where
 
   -- the next COUNT used
   abbrev pub next : X → ℕ → Act
-  next x p = act_of (wraps (H.core x)) (Forward (state_of p x).at.next)
+  next x p = act_of (wraps (H.core x)) (Ok (Forward (state_of p x).at.next))
 
   -- What an act on the record at p makes of a context, and of an answer.
   pub record Acts (x : X) (p : ℕ) (a : Act) (o : Outcome X) : Type 0 where
@@ -70,7 +71,7 @@ module _ {X : Type 0} (H : Holding X) where
     refused v out e = record { keys-after = same_keys (H.core x); size-after = refl; records-after = refl; counts = e }
 
     pub ahead : (v : Values) (c : ℕ) (out : List ℕ) → used_by v ≡ c ∷ []
-        → Acts x p (act_of (wraps (H.core x)) (Forward c)) (record { values = v; context = H.ahead x p c; output = out })
+        → Acts x p (act_of (wraps (H.core x)) (Ok (Forward c))) (record { values = v; context = H.ahead x p c; output = out })
     ahead v c out e =
         record {
           keys-after = keys_of (H.ahead x p c) (H.ahead-core x p c);
@@ -80,7 +81,7 @@ module _ {X : Type 0} (H : Holding X) where
         }
 
     pub below : (v : Values) (c : ℕ) (out : List ℕ) → used_by v ≡ c ∷ []
-        → Acts x p (act_of (wraps (H.core x)) (Late c)) (record { values = v; context = H.late x p c; output = out })
+        → Acts x p (act_of (wraps (H.core x)) (Ok (Late c))) (record { values = v; context = H.late x p c; output = out })
     below v c out e =
         record {
           keys-after = keys_of (H.late x p c) (H.late_core x p c);
@@ -101,13 +102,13 @@ module _ {X : Type 0} (H : Holding X) where
     -- by what an opening finds
     pub by-opening : {A : Type 0} (v : A → Values) (r : ℕ → Leaves X A) (h : ℕ → X → Leaves X A) (o : Opening)
         → ((k : ℕ) → Acts x p stay (outcome v (r k)))
-        → ((c : ℕ) → Acts x p (act_of (wraps (H.core x)) (Forward c)) (outcome v (h c (H.ahead x p c))))
-        → ((c : ℕ) → Acts x p (act_of (wraps (H.core x)) (Late c)) (outcome v (h c (H.late x p c))))
+        → ((c : ℕ) → Acts x p (act_of (wraps (H.core x)) (Ok (Forward c))) (outcome v (h c (H.ahead x p c))))
+        → ((c : ℕ) → Acts x p (act_of (wraps (H.core x)) (Ok (Late c))) (outcome v (h c (H.late x p c))))
         → Acts x p (act_of (wraps (H.core x)) o) (outcome v (received_as (H.ahead x p) (H.late x p) r h o))
-    by-opening v r h None f g k = f 6
-    by-opening v r h Wrong f g k = f 7
-    by-opening v r h (Late c) f g k = k c
-    by-opening v r h (Forward c) f g k = g c
+    by-opening v r h (Err NoCandidate) f g k = f 6
+    by-opening v r h (Err WrongCode) f g k = f 7
+    by-opening v r h (Ok (Late c)) f g k = k c
+    by-opening v r h (Ok (Forward c)) f g k = g c
 
     -- refused, or the next COUNT used and octets written
     pub sends : {A : Type 0} (v : A → Values) (refuses : ℕ → A) (says : ℕ → ℕ → A) → ((k : ℕ) → used_by (v (refuses k)) ≡ [])

@@ -1,4 +1,5 @@
 -- When a call takes a message as a COUNT: by what its opening finds.
+use Rattle.std.specs.Prelude.{Ok, Err}
 use Prim.Native.Nat.{ℕ}
 use mathlib.Core.Path.{◌≡◌, sym, ap, ◌∙◌}
 use mathlib.Core.Bool.{true, false}
@@ -6,8 +7,9 @@ use mathlib.Core.Logic.{◌⊎◌, inl, inr, ◌↔◌}
 use mathlib.Core.List.{List}
 use native.Mathlib.Omega.{arith}
 use lib.ListN.{length}
-use Rattle.count.specs.declared.Opening.{Opening}
-use Rattle.count.specs.declared.Opening.TheVariants.{Late, Forward, None, Wrong}
+use Rattle.count.specs.Rule.{Opening}
+use Rattle.count.specs.declared.Taken.TheVariants.{Late, Forward}
+use Rattle.count.specs.declared.Missed.TheVariants.{NoCandidate, WrongCode}
 use Rattle.count.specs.Facts.{Takes}
 use Rattle.nas_core.specs.Leaves.{leaves, over, received_as, Values, refusal}
 use Rattle.promise.specs.Outcomes.{Outcome, outcome, Uses, TakenAs}
@@ -34,10 +36,10 @@ module _ {X A : Type 0} (H : Holding X) (v : A → Values) (no : ℕ → A) (yes
   never-uses n e = let z : ◌≡◌ {A = ℕ} 0 1 = cc (a.refuses n) in absurd (omega arith)
 
   pub names : (o : Opening) (c : ℕ) → (left o).values.uses ≡ true → (left o).values.count ≡ c → Takes o c
-  names None c u e = never-uses 6 u
-  names Wrong c u e = never-uses 7 u
-  names (Late c') c u e = inl (ap Late (sym (a.count c') ∙ e))
-  names (Forward c') c u e = inr (ap Forward (sym (a.count c') ∙ e))
+  names (Err NoCandidate) c u e = never-uses 6 u
+  names (Err WrongCode) c u e = never-uses 7 u
+  names (Ok (Late c')) c u e = inl (ap (λ (n : ℕ). Ok (Late n)) (sym (a.count c') ∙ e))
+  names (Ok (Forward c')) c u e = inr (ap (λ (n : ℕ). Ok (Forward n)) (sym (a.count c') ∙ e))
 
   took : (c : ℕ) (inner : List ℕ) → plain_of_lem c ≡ inner → (o : Opening) → Takes o c → TakenAs (left o) c inner out
   took c inner q o (inl e) =
@@ -53,7 +55,7 @@ module _ {X A : Type 0} (H : Holding X) (v : A → Values) (no : ℕ → A) (yes
   alone n = record { values = refusal n; context = x; output = out }
 
   pub refused-alone : ((n : ℕ) → v (no n) ≡ refusal n) → (o : Opening) → ((c : ℕ) → Uses (left o) c → ⊥) → (left o ≡ alone 6) ⊎ (left o ≡ alone 7)
-  refused-alone only None n = inl (λ i. record { values = only 6 i; context = x; output = out })
-  refused-alone only Wrong n = inr (λ i. record { values = only 7 i; context = x; output = out })
-  refused-alone only (Late c) n = absurd (n c (a.uses c, a.count c))
-  refused-alone only (Forward c) n = absurd (n c (a.uses c, a.count c))
+  refused-alone only (Err NoCandidate) n = inl (λ i. record { values = only 6 i; context = x; output = out })
+  refused-alone only (Err WrongCode) n = inr (λ i. record { values = only 7 i; context = x; output = out })
+  refused-alone only (Ok (Late c)) n = absurd (n c (a.uses c, a.count c))
+  refused-alone only (Ok (Forward c)) n = absurd (n c (a.uses c, a.count c))

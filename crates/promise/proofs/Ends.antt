@@ -1,14 +1,14 @@
 -- Two ends and a bad channel: the receiver as a run of one record.
+use Rattle.std.specs.Prelude.{Option, Ok, Err}
 use Prim.Native.Nat.{ℕ, ◌+◌, ◌%◌, ◌≤◌, ◌<◌}
 use mathlib.Core.Path.{◌≡◌, refl, sym, ap, ◌∙◌, subst}
 use mathlib.Core.Bool.{Bool, true, false, cond}
 use mathlib.Core.Logic.{◌⊎◌, inl, inr, ⊎_elim, ◌↔◌}
 use mathlib.Core.List.{List, [], ◌∷◌, ◌++◌}
 use native.Mathlib.Omega.{arith}
-use Rattle.count.specs.declared.Candidate.{Candidate}
-use Rattle.count.specs.declared.Opening.{Opening}
-use Rattle.count.specs.declared.Opening.TheVariants.{Late, Forward, None, Wrong}
-use Rattle.count.specs.Rule.{exhausted, opening, late_of, forward_of}
+use Rattle.count.specs.Rule.{Opening, exhausted, opening, late_of, forward_of}
+use Rattle.count.specs.declared.Taken.TheVariants.{Late, Forward}
+use Rattle.count.specs.declared.Missed.TheVariants.{NoCandidate, WrongCode}
 use Rattle.count.specs.Run.{State, Act, act, act_of, used, Within, Valid, after, Fair, history, In, StillOpen}
 use Rattle.count.specs.Facts.{Takes, Reach, Facts}
 use Rattle.count.proofs.Candidates.{forward-reached, late-found}
@@ -24,18 +24,18 @@ use Rattle.promise.proofs.Steady.{next_of, next-highest, next-in, in-under, Quie
 
 -- what an opening finds: its act, and the COUNTs that it uses
 found-quiet : (o : Opening) → Quiet (act_of false o)
-found-quiet (Late c) = tt
-found-quiet (Forward c) = tt
-found-quiet None = tt
-found-quiet Wrong = tt
+found-quiet (Ok (Late c)) = tt
+found-quiet (Ok (Forward c)) = tt
+found-quiet (Err NoCandidate) = tt
+found-quiet (Err WrongCode) = tt
 
 used-taken : (o : Opening) (c : ℕ) → In c (used (act_of false o)) → Takes o c
-used-taken (Late x) c (inl e) = inl (ap Late (sym e))
-used-taken (Forward x) c (inl e) = inr (ap Forward (sym e))
-used-taken (Late x) c (inr x3) = elim x3 [ ]
-used-taken (Forward x) c (inr x4) = elim x4 [ ]
-used-taken None c x3 = elim x3 [ ]
-used-taken Wrong c x4 = elim x4 [ ]
+used-taken (Ok (Late x)) c (inl e) = inl (ap (λ (x : ℕ). Ok (Late x)) (sym e))
+used-taken (Ok (Forward x)) c (inl e) = inr (ap (λ (x : ℕ). Ok (Forward x)) (sym e))
+used-taken (Ok (Late x)) c (inr x3) = elim x3 [ ]
+used-taken (Ok (Forward x)) c (inr x4) = elim x4 [ ]
+used-taken (Err NoCandidate) c x3 = elim x3 [ ]
+used-taken (Err WrongCode) c x4 = elim x4 [ ]
 
 taken-used : (o : Opening) (c : ℕ) → Takes o c → In c (used (act_of false o))
 taken-used o c (inl e) = rw e (inl refl)
@@ -43,30 +43,30 @@ taken-used o c (inr e) = rw e (inl refl)
 
 -- none, or one
 taken-or-not : (o : Opening) → ((c : ℕ) × Takes o c) ⊎ ((c : ℕ) → Takes o c → ⊥)
-taken-or-not (Late c) = inl (c, inl refl)
-taken-or-not (Forward c) = inl (c, inr refl)
-taken-or-not None = inr (λ c h. taken-used None c h)
-taken-or-not Wrong = inr (λ c h. taken-used Wrong c h)
+taken-or-not (Ok (Late c)) = inl (c, inl refl)
+taken-or-not (Ok (Forward c)) = inl (c, inr refl)
+taken-or-not (Err NoCandidate) = inr (λ c h. taken-used (Err NoCandidate) c h)
+taken-or-not (Err WrongCode) = inr (λ c h. taken-used (Err WrongCode) c h)
 
 -- what is found fits, and is a COUNT
 module _ (fits : ℕ → Bool) (s : State) (o c : ℕ) where
-  abbrev late : Candidate
+  abbrev late : Option ℕ
   late = late_of 8 s.size s.at o
 
-  abbrev ahead : Candidate
+  abbrev ahead : Option ℕ
   ahead = forward_of 8 false s.at o
 
   found-fits : Takes (opening 8 false fits s.size s.at o) c → fits c ≡ true
   unfolding opening
-  found-fits (inl e) = ((answers fits late ahead (Late c)).0 e).1
-  found-fits (inr e) = ((answers fits late ahead (Forward c)).0 e).2
+  found-fits (inl e) = ((answers fits late ahead (Ok (Late c))).0 e).1
+  found-fits (inr e) = ((answers fits late ahead (Ok (Forward c))).0 e).2
 
   found-count : s.at.next ≤ exhausted → Takes (opening 8 false fits s.size s.at o) c → c < exhausted
   unfolding opening
   found-count h (inl e) =
-      let u = to_clear s c (late-found 8 s.size s.at o c ((answers fits late ahead (Late c)).0 e).0).0 in
+      let u = to_clear s c (late-found 8 s.size s.at o c ((answers fits late ahead (Ok (Late c))).0 e).0).0 in
       omega (arith, u.within.under)
-  found-count h (inr e) = (forward-reached 8 s.at o c ((answers fits late ahead (Forward c)).0 e).1).0
+  found-count h (inr e) = (forward-reached 8 s.at o c ((answers fits late ahead (Ok (Forward c))).0 e).1).0
 
 -- the statement's words for the reach, by the next COUNT
 reach-by : (w : ℕ) (l : List ℕ) (c : ℕ)

@@ -1,4 +1,5 @@
 -- What is kept over any calls, from the facts of one record.
+use Rattle.std.specs.Prelude.{Ok}
 use Prim.Native.Nat.{ℕ, ◌+◌, ◌%◌, ◌^◌, ◌≤◌, ◌<◌}
 use mathlib.Core.Path.{◌≡◌, refl, sym, ap, ◌∙◌, subst}
 use mathlib.Core.Bool.{Bool, true, false, cond}
@@ -6,7 +7,7 @@ use mathlib.Core.Logic.{◌⊎◌, inl, inr, ⊎_elim, ◌↔◌}
 use mathlib.Core.List.{List, [], ◌∷◌, ◌++◌}
 use native.Mathlib.Omega.{arith}
 use lib.Dec.{eqb}
-use Rattle.count.specs.declared.Opening.TheVariants.{Forward}
+use Rattle.count.specs.declared.Taken.TheVariants.{Forward}
 use Rattle.count.specs.Rule.{exhausted, opening, forward_only, use_forward, use_late, resize_of}
 use Rattle.count.specs.Run.{State, Act, stay, uses, resize, close, forward, late, round, act, Within, Valid, Passes, after, Fair, history, In, NoneTwice, PassedLast, Inside, Since, now, still, StillOpen}
 use Rattle.count.specs.Facts.{Takes, Reach}
@@ -178,10 +179,10 @@ module _ {X C : Type 0} {T : Machine X C} (W : Words T) (Good : X → Type 0) (k
         let below : c' < exhausted = omega (arith, w.under, under-now ks) in
         subst (λ (s : ℕ). Takes (opening k false fits at.size at.at s) c') q ((takes-iff c' small below f).1 (inl st))
 
-    takes-forward : (c : ℕ) → c < exhausted → fits c ≡ true → (forward_only k false fits at.at (c % 2 ^ k) ≡ Forward c) ↔ Reach k at c
+    takes-forward : (c : ℕ) → c < exhausted → fits c ≡ true → (forward_only k false fits at.at (c % 2 ^ k) ≡ Ok (Forward c)) ↔ Reach k at c
     takes-forward c count own =
         subst
-        (λ (t : State). (forward_only k false fits t.at (c % 2 ^ k) ≡ Forward c) ↔ Reach k t c)
+        (λ (t : State). (forward_only k false fits t.at (c % 2 ^ k) ≡ Ok (Forward c)) ↔ Reach k t c)
         (state-now ks)
         ((lifted.facts begins.shut ks).taken-forward k fits c count own)
 

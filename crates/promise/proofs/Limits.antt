@@ -1,15 +1,15 @@
 -- What a context holds stays within its limits.
+use Rattle.std.specs.Prelude.{Option, Ok, Err}
 use Prim.Native.Nat.{ℕ, ◌≤◌, ◌<◌}
 use mathlib.Core.Path.{◌≡◌, refl, sym, ap, ◌∙◌, subst}
 use mathlib.Core.Bool.{Bool, true, false, cond}
 use native.Mathlib.Omega.{arith}
 use lib.ListN.{length}
 use lib.Dec.{eqb}
-use Rattle.count.specs.declared.Candidate.{Candidate}
-use Rattle.count.specs.declared.Opening.{Opening}
-use Rattle.count.specs.declared.Opening.TheVariants.{Late, Forward, None, Wrong}
+use Rattle.count.specs.Rule.{Opening, exhausted, forward_of, try, use_forward, use_round, use_late, resize_of, close_of}
+use Rattle.count.specs.declared.Taken.TheVariants.{Late, Forward}
+use Rattle.count.specs.declared.Missed.TheVariants.{NoCandidate, WrongCode}
 use Rattle.count.specs.declared.Record.{Record}
-use Rattle.count.specs.Rule.{exhausted, forward_of, try, use_forward, use_round, use_late, resize_of, close_of}
 use Rattle.count.specs.Run.{State, Act, stay, uses, resize, close, forward, late, round, act, act_of}
 use Rattle.count.specs.Facts.{When}
 use Rattle.count.specs.Machine.{seen, view}
@@ -19,18 +19,18 @@ use Rattle.count.proofs.Lifting.{view-gives, length-after}
 use Rattle.promise.specs.Limits.{Bounded, LimitsKept}
 
 -- what calls do
-pub next-bounded : (w : Bool) (c : ℕ) → c < exhausted → Bounded (act_of w (Forward c))
+pub next-bounded : (w : Bool) (c : ℕ) → c < exhausted → Bounded (act_of w (Ok (Forward c)))
 next-bounded true c h = tt
 next-bounded false c h = h
 
-pub tried-bounded : (k : ℕ) (w : Bool) (fits : ℕ → Bool) (l : Candidate) (r : Record) (s : ℕ) → Bounded (act_of w (try fits l (forward_of k w r s)))
+pub tried-bounded : (k : ℕ) (w : Bool) (fits : ℕ → Bool) (l : Option ℕ) (r : Record) (s : ℕ) → Bounded (act_of w (try fits l (forward_of k w r s)))
 tried-bounded k w fits l r s = go (try fits l (forward_of k w r s)) ((answers fits l (forward_of k w r s) (try fits l (forward_of k w r s))).0 refl)
   where
     go : (o : Opening) → When fits l (forward_of k w r s) o → Bounded (act_of w o)
-    go (Late c) t = tt
-    go (Forward c) t = next-bounded w c (forward-found k w r s c t.1).0
-    go None t = tt
-    go Wrong t = tt
+    go (Ok (Late c)) t = tt
+    go (Ok (Forward c)) t = next-bounded w c (forward-found k w r s c t.1).0
+    go (Err NoCandidate) t = tt
+    go (Err WrongCode) t = tt
 
 seen-bounded : (p q : ℕ) (a : Act) → Bounded a → Bounded (seen p q a)
 seen-bounded p q stay h = tt

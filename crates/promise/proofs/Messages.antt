@@ -1,10 +1,10 @@
 -- Messages opened after any calls.
+use Rattle.std.specs.Prelude.{None, Ok}
 use Prim.Native.Nat.{ℕ, ◌%◌, ◌^◌}
 use mathlib.Core.Path.{◌≡◌, sym, subst}
 use mathlib.Core.Bool.{Bool, true, false}
 use mathlib.Core.Logic.{inr, ⊎_elim, ◌↔◌}
-use Rattle.count.specs.declared.Opening.TheVariants.{Late, Forward}
-use Rattle.count.specs.declared.Candidate.TheVariants.{Nothing}
+use Rattle.count.specs.declared.Taken.TheVariants.{Late, Forward}
 use Rattle.count.specs.Rule.{forward_of, forward_only}
 use Rattle.count.specs.Run.{State}
 use Rattle.count.specs.Facts.{Takes}
@@ -21,10 +21,10 @@ pub back : {A B : Type 0} → A ↔ B → B ↔ A
 back f = (f.1, f.0)
 
 -- without a late half nothing is taken late
-only-forward : (k : ℕ) (fits : ℕ → Bool) (s : State) (o c : ℕ) → Takes (forward_only k false fits s.at o) c ↔ (forward_only k false fits s.at o ≡ Forward c)
+only-forward : (k : ℕ) (fits : ℕ → Bool) (s : State) (o c : ℕ) → Takes (forward_only k false fits s.at o) c ↔ (forward_only k false fits s.at o ≡ Ok (Forward c))
 unfolding forward_only
 only-forward k fits s o c =
-    (⊎_elim (λ e. never ((answers fits Nothing (forward_of k false s.at o) (Late c)).0 e).0) (λ e. e), inr)
+    (⊎_elim (λ e. never ((answers fits None (forward_of k false s.at o) (Ok (Late c))).0 e).0) (λ e. e), inr)
 
 pub opens : OpensBy
 opens X C T W Good K keeping goes x ks m c begins ready =

@@ -1,4 +1,5 @@
 -- What demand 1 says of one outcome, of each shape that outcomes have.
+use Rattle.std.specs.Prelude.{Ok, Err}
 use Prim.Native.Nat.{ℕ, ◌≤◌}
 use mathlib.Core.Path.{◌≡◌, refl, sym, ◌∙◌, subst}
 use mathlib.Core.Bool.{Bool, true, false, cond}
@@ -9,8 +10,9 @@ use lib.ListN.{length, get_or, drop, length-append, length-drop}
 use lib.Seq.{drop-append_seam}
 use lib.Dec.{eqb, ltb}
 use borrow.Author.Tests.{ltb-false}
-use Rattle.count.specs.declared.Opening.{Opening}
-use Rattle.count.specs.declared.Opening.TheVariants.{Late, Forward, None, Wrong}
+use Rattle.count.specs.Rule.{Opening}
+use Rattle.count.specs.declared.Taken.TheVariants.{Late, Forward}
+use Rattle.count.specs.declared.Missed.TheVariants.{NoCandidate, WrongCode}
 use Rattle.count.specs.Run.{In}
 use Rattle.refusals.specs.Order.{◌when◌, first, refused_or}
 use Rattle.refusals.proofs.Laws.{passed, off}
@@ -65,9 +67,9 @@ module _ {X : Type 0} (s : List ℕ) (x : X) (out : List ℕ) where
   pub told-received : (H : Holding X) {A : Type 0} (v : A → Values) (no' yes' : ℕ → A) (plain_of_lem : ℕ → List ℕ) (a : Answering v no' yes' plain_of_lem) (p : ℕ)
       (o : Opening) → ((n : ℕ) → v (no' n) ≡ refusal n) → ((c : ℕ) → ((v (yes' c)).number ≡ 0) ⊎ (((v (yes' c)).number ≡ 8) × In 8 s)) → In 6 s → In 7 s
       → ((c : ℕ) → length (plain_of_lem c) ≤ length out) → Told s x out (left H v no' yes' plain_of_lem a x p out o)
-  told-received H v no' yes' plain_of_lem a p None alike number six seven fit = rw (alike 6) (told-alone 6 six)
-  told-received H v no' yes' plain_of_lem a p Wrong alike number six seven fit = rw (alike 7) (told-alone 7 seven)
-  told-received H v no' yes' plain_of_lem a p (Late c) alike number six seven fit =
+  told-received H v no' yes' plain_of_lem a p (Err NoCandidate) alike number six seven fit = rw (alike 6) (told-alone 6 six)
+  told-received H v no' yes' plain_of_lem a p (Err WrongCode) alike number six seven fit = rw (alike 7) (told-alone 7 seven)
+  told-received H v no' yes' plain_of_lem a p (Ok (Late c)) alike number six seven fit =
       told_over (v (yes' c)) (H.late x p c) (plain_of_lem c) (number c) (a.wrote c) (fit c)
-  told-received H v no' yes' plain_of_lem a p (Forward c) alike number six seven fit =
+  told-received H v no' yes' plain_of_lem a p (Ok (Forward c)) alike number six seven fit =
       told_over (v (yes' c)) (H.ahead x p c) (plain_of_lem c) (number c) (a.wrote c) (fit c)

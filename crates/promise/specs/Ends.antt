@@ -1,7 +1,6 @@
 -- How two ends are shown to meet, once for every context: what a context shows of its link, in the words of crate count.
 use Rattle.std.specs.Prelude.{ℕ, ◌+◌, ◌%◌, ◌≤◌, ◌<◌, ◌≡◌, true, false, ◌↔◌}
-use Rattle.count.specs.declared.Opening.{Opening}
-use Rattle.count.specs.Rule.{exhausted, opening}
+use Rattle.count.specs.Rule.{Opening, exhausted, opening}
 use Rattle.count.specs.Run.{State, act, act_of, used}
 use Rattle.count.specs.Facts.{Takes}
 use Rattle.promise.specs.Outcomes.{used_by, Succeeds, written}

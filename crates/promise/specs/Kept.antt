@@ -1,7 +1,7 @@
 -- What is kept of the record at p over any calls: no COUNT is used twice, and exactly which messages are taken as their COUNT. It is demand 3, of what the
 -- COUNT rule finds; specs/Messages brings it to messages and the calls that open them.
-use Rattle.std.specs.Prelude.{ℕ, ◌%◌, ◌^◌, ◌≤◌, ◌<◌, ◌≡◌, Bool, true, false, ◌⊎◌, ◌↔◌, List, length}
-use Rattle.count.specs.declared.Opening.TheVariants.{Forward}
+use Rattle.std.specs.Prelude.{ℕ, ◌%◌, ◌^◌, ◌≤◌, ◌<◌, ◌≡◌, Bool, true, false, ◌⊎◌, ◌↔◌, List, length, Ok}
+use Rattle.count.specs.declared.Taken.TheVariants.{Forward}
 use Rattle.count.specs.Rule.{exhausted, opening, forward_only}
 use Rattle.count.specs.Run.{State, Shut, In, NoneTwice, used}
 use Rattle.count.specs.Facts.{Takes, Reach}
@@ -46,7 +46,7 @@ module _ {X C : Type 0} {T : Machine X C} (W : Words T) (p : ℕ) (x : X) (ks : 
         → Takes (opening k false fits record_now.size record_now.at (c % 2 ^ k)) c'
     -- a message that may not open late; nothing is asked of the window
     pub taken-forward : (k : ℕ) (fits : ℕ → Bool) (c : ℕ) → c < exhausted → fits c ≡ true
-        → (forward_only k false fits record_now.at (c % 2 ^ k) ≡ Forward c) ↔ Reach k record_now c
+        → (forward_only k false fits record_now.at (c % 2 ^ k) ≡ Ok (Forward c)) ↔ Reach k record_now c
 
 abbrev pub KeptBy : Type 1
 KeptBy =

@@ -1,8 +1,7 @@
 -- Messages for a COUNT, and what the call that opens one does, after any calls. A kind is a family of messages that differ in keys, octets and COUNT: the 5GS
 -- and EPS messages of a 5GS context are one kind; a message that carries fewer bits of its COUNT, or may not open late, is another.
 use Rattle.std.specs.Prelude.{ℕ, ◌%◌, ◌^◌, ◌<◌, ◌≡◌, Bool, true, false, cond, ◌↔◌, List}
-use Rattle.count.specs.declared.Opening.{Opening}
-use Rattle.count.specs.Rule.{exhausted, opening, forward_only}
+use Rattle.count.specs.Rule.{Opening, exhausted, opening, forward_only}
 use Rattle.count.specs.Run.{State, act_of}
 use Rattle.count.specs.Facts.{Takes, Reach}
 use Rattle.count.specs.Machine.{Machine, view}

@@ -1,4 +1,5 @@
 -- Demand 2: when seals and container calls succeed, and what is said of octets beside.
+use Rattle.std.specs.Prelude.{Option, None, Some, Ok, Err}
 use Prim.Native.Nat.{ℕ, suc, ◌+◌, ◌*◌, ◌/◌, ◌%◌, ◌≤◌, ◌<◌}
 use mathlib.Core.Path.{◌≡◌, refl, sym, ap, ◌∙◌, subst}
 use mathlib.Core.Bool.{Bool, true, false, not, ◌&&◌, ◌||◌}
@@ -8,11 +9,9 @@ use native.Mathlib.Omega.{arith}
 use lib.ListN.{length, get_or}
 use lib.Dec.{eqb, ltb, leb}
 use borrow.Author.Tests.{eqb-true, eq-eqb, ltb-false, le-ltb, leb-false, lt-leb, not-false}
-use Rattle.count.specs.declared.Opening.{Opening}
-use Rattle.count.specs.declared.Opening.TheVariants.{Late, Forward, None, Wrong}
-use Rattle.count.specs.declared.Candidate.{Candidate}
-use Rattle.count.specs.declared.Candidate.TheVariants.{Nothing, At}
-use Rattle.count.specs.Rule.{exhausted, forward_of, forward_only}
+use Rattle.count.specs.Rule.{Opening, exhausted, forward_of, forward_only}
+use Rattle.count.specs.declared.Taken.TheVariants.{Late, Forward}
+use Rattle.count.specs.declared.Missed.TheVariants.{NoCandidate, WrongCode}
 use Rattle.count.proofs.Openings.{answers}
 use Rattle.count.proofs.Candidates.{never}
 use Rattle.refusals.specs.Order.{◌when◌, first}
@@ -224,28 +223,28 @@ module _ (z : Context) where
         h.count h.code)).0,
   )
 
-  octet-taken : (s c : ℕ) (o : Opening) → ((c' : ℕ) → o ≡ Late c' → ⊥)
-      → let q = outcome verify_values (received z container_place (octet_refused z s) (octet_used z s) o) in (Succeeds q × Uses q c) ↔ (o ≡ Forward c)
-  octet-taken s c None none-late = ((λ h. let q : ◌≡◌ {A = ℕ} 0 1 = cc in absurd (omega arith)), λ e. let q : ◌≡◌ {A = ℕ} 0 1 = cc in absurd (omega arith))
-  octet-taken s c Wrong none-late = ((λ h. let q : ◌≡◌ {A = ℕ} 0 1 = cc in absurd (omega arith)), λ e. let q : ◌≡◌ {A = ℕ} 0 1 = cc in absurd (omega arith))
-  octet-taken s c (Late n) none-late = absurd (none-late n refl)
-  octet-taken s c (Forward n) none-late = ((λ h. ap Forward h.1.1), λ e. let q : n ≡ c = cc in (refl, (refl, q)))
+  octet-taken : (s c : ℕ) (o : Opening) → ((c' : ℕ) → o ≡ Ok (Late c') → ⊥)
+      → let q = outcome verify_values (received z container_place (octet_refused z s) (octet_used z s) o) in (Succeeds q × Uses q c) ↔ (o ≡ Ok (Forward c))
+  octet-taken s c (Err NoCandidate) none-late = ((λ h. let q : ◌≡◌ {A = ℕ} 0 1 = cc in absurd (omega arith)), λ e. let q : ◌≡◌ {A = ℕ} 0 1 = cc in absurd (omega arith))
+  octet-taken s c (Err WrongCode) none-late = ((λ h. let q : ◌≡◌ {A = ℕ} 0 1 = cc in absurd (omega arith)), λ e. let q : ◌≡◌ {A = ℕ} 0 1 = cc in absurd (omega arith))
+  octet-taken s c (Ok (Late n)) none-late = absurd (none-late n refl)
+  octet-taken s c (Ok (Forward n)) none-late = ((λ h. ap (λ (n : ℕ). Ok (Forward n)) h.1.1), λ e. let q : n ≡ c = cc in (refl, (refl, q)))
 
-  abbrev ahead : ℕ → Candidate
+  abbrev ahead : ℕ → Option ℕ
   ahead s = forward_of 8 (wraps z.core) (record_at z container_place) s
 
   octet-exactly : (s c : ℕ)
       → let o = gives (verify_n1_to_s1 s) z in
-      (Succeeds o × Uses o c) ↔ ((fault_of z ≡ 0) × (forward_of 8 (wraps z.core) (record_at z container_place) s ≡ At c))
+      (Succeeds o × Uses o c) ↔ ((fault_of z ≡ 0) × (forward_of 8 (wraps z.core) (record_at z container_place) s ≡ Some c))
   unfolding forward_only
   octet-exactly s c = (
     (λ h.
         let fault = opened-passed (verify_n1_to_s1 s) z (inl h.0) in
         let h' = subst (λ (o : Outcome). Succeeds o × Uses o c) (gives-passed (verify_n1_to_s1 s) z fault) h in
-        (fault, ((answers (λ c'. true) Nothing (ahead s) (Forward c)).0 ((octet-taken s c (octet_found z s) (octet-never-late z s)).0 h')).1)),
+        (fault, ((answers (λ c'. true) None (ahead s) (Ok (Forward c))).0 ((octet-taken s c (octet_found z s) (octet-never-late z s)).0 h')).1)),
     λ h.
         rw (gives-passed (verify_n1_to_s1 s) z h.0)
-        ((octet-taken s c (octet_found z s) (octet-never-late z s)).1 ((answers (λ c'. true) Nothing (ahead s) (Forward c)).1 ((λ c' e. never e), h.1, refl))),
+        ((octet-taken s c (octet_found z s) (octet-never-late z s)).1 ((answers (λ c'. true) None (ahead s) (Ok (Forward c))).1 ((λ c' e. never e), h.1, refl))),
   )
 
 pub accepts : (z : Context) → Accepts z

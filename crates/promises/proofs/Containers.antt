@@ -1,4 +1,5 @@
 -- Demand 2: containers and estimates.
+use Rattle.std.specs.Prelude.{None, Some, Ok}
 use Prim.Native.Nat.{ℕ, ◌+◌, ◌*◌, ◌/◌, ◌%◌, ◌≤◌, ◌<◌}
 use mathlib.Core.Path.{◌≡◌, refl, sym, ap, ◌∙◌, subst}
 use mathlib.Core.Bool.{Bool, true, false, cond, not, ◌||◌}
@@ -10,8 +11,7 @@ use lib.ListN.{length, get_or, drop}
 use lib.Seq.{get_or-set_same}
 use lib.Dec.{ltb}
 use borrow.Author.Tests.{eq-eqb, ltb-false, le-ltb, le-leb, lt-leb, not-false}
-use Rattle.count.specs.declared.Opening.TheVariants.{Late, Forward}
-use Rattle.count.specs.declared.Candidate.TheVariants.{Nothing, At}
+use Rattle.count.specs.declared.Taken.TheVariants.{Late, Forward}
 use Rattle.count.specs.declared.Record.{Record}
 use Rattle.count.specs.Rule.{exhausted, forward_of, late_of, opening, forward_only, use_forward, use_round}
 use Rattle.count.specs.Facts.{Takes}
@@ -25,8 +25,8 @@ use Rattle.nas_core.specs.Keyed.{wraps, code_by}
 use Rattle.nas_core.specs.Refusals.{limit, unbuilt}
 use Rattle.nas_core.specs.Verify.{fits, verify_of, advanced}
 use Rattle.nas_5gs.specs.declared.Context.{Context}
-use Rattle.nas_5gs.specs.declared.OpenAnswer.TheVariants as open'
-use Rattle.nas_5gs.specs.declared.EpsOpenAnswer.TheVariants as eps
+use Rattle.nas_5gs.specs.OpenAnswer as open'
+use Rattle.nas_5gs.specs.EpsOpenAnswer as eps
 use Rattle.nas_5gs.specs.Places.{direction_no, bearer_no, place_of, record_at, next_at, fault_of, used}
 use Rattle.nas_5gs.specs.Leaves.{use_next, open_values, eps_open_values}
 use Rattle.nas_5gs.specs.Eps.{eps_place, eps_bearer, eps_direction}
@@ -46,18 +46,18 @@ use Rattle.promises.proofs.Demand2.{writes-by}
 
 -- estimates
 taken-fits : (w : Bool) (fit : ℕ → Bool) (size : ℕ) (r : Record) (s c : ℕ) → Takes (opening 8 w fit size r s) c
-    → ((late_of 8 size r s ≡ At c) ⊎ (forward_of 8 w r s ≡ At c)) × (fit c ≡ true)
+    → ((late_of 8 size r s ≡ Some c) ⊎ (forward_of 8 w r s ≡ Some c)) × (fit c ≡ true)
 unfolding opening
-taken-fits true fit size r s c (inl e) = never ((answers fit Nothing (forward_of 8 true r s) (Late c)).0 e).0
+taken-fits true fit size r s c (inl e) = never ((answers fit None (forward_of 8 true r s) (Ok (Late c))).0 e).0
 taken-fits false fit size r s c (inl e) =
-    let t = (answers fit (late_of 8 size r s) (forward_of 8 false r s) (Late c)).0 e in (inl t.0, t.1)
-taken-fits true fit size r s c (inr e) = let t = (answers fit Nothing (forward_of 8 true r s) (Forward c)).0 e in (inr t.1, t.2)
+    let t = (answers fit (late_of 8 size r s) (forward_of 8 false r s) (Ok (Late c))).0 e in (inl t.0, t.1)
+taken-fits true fit size r s c (inr e) = let t = (answers fit None (forward_of 8 true r s) (Ok (Forward c))).0 e in (inr t.1, t.2)
 taken-fits false fit size r s c (inr e) =
-    let t = (answers fit (late_of 8 size r s) (forward_of 8 false r s) (Forward c)).0 e in (inr t.1, t.2)
+    let t = (answers fit (late_of 8 size r s) (forward_of 8 false r s) (Ok (Forward c))).0 e in (inr t.1, t.2)
 
 module _ (x : Context) where
   found-fits : (p b d q : ℕ) (m : List ℕ) (c : ℕ) → Takes (verify_of x.core (record_at x p) b d q m) c
-      → ((late_of 8 x.core.size (record_at x p) (get_or m (q + 4) 0) ≡ At c) ⊎ (forward_of 8 (wraps x.core) (record_at x p) (get_or m (q + 4) 0) ≡ At c))
+      → ((late_of 8 x.core.size (record_at x p) (get_or m (q + 4) 0) ≡ Some c) ⊎ (forward_of 8 (wraps x.core) (record_at x p) (get_or m (q + 4) 0) ≡ Some c))
       × (fits x.core c b d q m ≡ true)
   unfolding verify_of
   found-fits p b d q m c h = taken-fits (wraps x.core) (λ c'. fits x.core c' b d q m) x.core.size (record_at x p) (get_or m (q + 4) 0) c h
@@ -128,7 +128,7 @@ pub verified : (x : Context) (v : List ℕ) → verify_s1_to_n1_refusal x v ≡ 
 unfolding use_next
 verified x v e = rw (gives-passed (verify_s1_to_n1 v) x e) (refl, (refl, refl))
 
-octet-found : (x : Context) (c : ℕ) → c < exhausted → Ahead container_place x c → octet_found x (c % 256) ≡ Forward c
+octet-found : (x : Context) (c : ℕ) → c < exhausted → Ahead container_place x c → octet_found x (c % 256) ≡ Ok (Forward c)
 unfolding forward_only
 octet-found x c count h =
     let r = record_at x container_place in

@@ -1,4 +1,5 @@
 -- Demand 1.
+use Rattle.std.specs.Prelude.{Option, None, Some, Ok, Err}
 use Prim.Native.Nat.{ℕ, zero, suc, ◌+◌, ◌-◌, ◌≤◌, ◌<◌}
 use mathlib.Core.Path.{◌≡◌, refl, sym, ap, ◌∙◌, subst}
 use mathlib.Core.Bool.{Bool, true, false, cond, not, ◌||◌}
@@ -8,11 +9,9 @@ use native.Mathlib.Omega.{arith}
 use lib.ListN.{length, get_or, drop, length-append, length-drop}
 use lib.Dec.{eqb, ltb}
 use borrow.Author.Tests.{eqb-true, eqb-false, lt-ltb, le-ltb}
-use Rattle.count.specs.declared.Opening.{Opening}
-use Rattle.count.specs.declared.Opening.TheVariants.{Late, Forward, None, Wrong}
-use Rattle.count.specs.declared.Candidate.{Candidate}
-use Rattle.count.specs.declared.Candidate.TheVariants.{Nothing, At}
-use Rattle.count.specs.Rule.{exhausted, distance_of, forward_of, try_forward, forward_only}
+use Rattle.count.specs.Rule.{Opening, exhausted, distance_of, forward_of, try_forward, forward_only}
+use Rattle.count.specs.declared.Taken.TheVariants.{Late, Forward}
+use Rattle.count.specs.declared.Missed.TheVariants.{NoCandidate, WrongCode}
 use Rattle.count.specs.Run.{In}
 use Rattle.count.proofs.Candidates.{never}
 use Rattle.count.proofs.Openings.{answers}
@@ -27,9 +26,9 @@ use Rattle.nas_5gs.specs.declared.Context.{Context}
 use Rattle.nas_5gs.specs.declared.Direction.{Direction}
 use Rattle.nas_5gs.specs.declared.Direction.TheVariants.{Uplink}
 use Rattle.nas_5gs.specs.declared.Connection.{Connection}
-use Rattle.nas_5gs.specs.declared.UseAnswer.TheVariants as use'
-use Rattle.nas_5gs.specs.declared.OpenAnswer.TheVariants as open'
-use Rattle.nas_5gs.specs.declared.EpsOpenAnswer.TheVariants as eps
+use Rattle.nas_core.specs.UseAnswer as use'
+use Rattle.nas_5gs.specs.OpenAnswer as open'
+use Rattle.nas_5gs.specs.EpsOpenAnswer as eps
 use Rattle.nas_5gs.specs.Places.{direction_no, bearer_no, place_of, four, any_over, record_at, next_at, fault_of, used, used_late}
 use Rattle.nas_5gs.specs.Leaves.{over, use_next, received, Values, refusal, use_values, open_values, eps_open_values, verify_values}
 use Rattle.nas_5gs.specs.Changes.{refused_context, new_of, restore_of, reselect_of, window_of}
@@ -62,20 +61,20 @@ with-8 s eight (inl e) = inl e
 with-8 s eight (inr e) = inr (e, eight)
 
 -- the N1-to-S1 container has no code, so none is wrong
-never-wrong : (l : Candidate) → try_forward (λ c. true) l ≡ Wrong → ⊥
-never-wrong Nothing e = let z : ◌≡◌ {A = ℕ} 0 1 = cc in omega arith
-never-wrong (At c) e = let z : ◌≡◌ {A = ℕ} 0 1 = cc in omega arith
+never-wrong : (l : Option ℕ) → try_forward (λ c. true) l ≡ Err WrongCode → ⊥
+never-wrong None e = let z : ◌≡◌ {A = ℕ} 0 1 = cc in omega arith
+never-wrong (Some c) e = let z : ◌≡◌ {A = ℕ} 0 1 = cc in omega arith
 
-octet-not-wrong : (x : Context) (n : ℕ) → octet_found x n ≡ Wrong → ⊥
+octet-not-wrong : (x : Context) (n : ℕ) → octet_found x n ≡ Err WrongCode → ⊥
 unfolding forward_only
 octet-not-wrong x n = never-wrong (forward_of 8 (wraps x.core) (record_at x container_place) n)
 
-told-octet : (s : List ℕ) (x : Context) (n : ℕ) (o : Opening) → In 6 s → (o ≡ Wrong → ⊥)
+told-octet : (s : List ℕ) (x : Context) (n : ℕ) (o : Opening) → In 6 s → (o ≡ Err WrongCode → ⊥)
     → Told s x [] (outcome verify_values (received x container_place (octet_refused x n) (octet_used x n) o))
-told-octet s x n None six not-wrong = told-alone s x [] 6 six
-told-octet s x n Wrong six not-wrong = absurd (not-wrong refl)
-told-octet s x n (Late c) six not-wrong = told_over s x [] (verify_values (octet_as x n c)) (used_late x container_place c) [] (inl refl) refl (omega arith)
-told-octet s x n (Forward c) six not-wrong = told_over s x [] (verify_values (octet_as x n c)) (used x container_place c) [] (inl refl) refl (omega arith)
+told-octet s x n (Err NoCandidate) six not-wrong = told-alone s x [] 6 six
+told-octet s x n (Err WrongCode) six not-wrong = absurd (not-wrong refl)
+told-octet s x n (Ok (Late c)) six not-wrong = told_over s x [] (verify_values (octet_as x n c)) (used_late x container_place c) [] (inl refl) refl (omega arith)
+told-octet s x n (Ok (Forward c)) six not-wrong = told_over s x [] (verify_values (octet_as x n c)) (used x container_place c) [] (inl refl) refl (omega arith)
 
 pub s1-long : (x : Context) (ncc ngksi : ℕ) → length (s1_to_n1 x.core ncc ngksi) ≡ 8
 unfolding s1_to_n1 code_by
@@ -173,10 +172,10 @@ module _ {A : Type 0} (v : A → Values) (no' yes' : ℕ → A) (plain_of_lem : 
   late_is c = record { uses = a.uses c; context = inr (rw (a.count c)); wrote = rw (a.count c) (a.wrote c); output = rw (a.count c) }
 
   hands : (o : Opening) → Opened (left v no' yes' plain_of_lem a x p out o) → HandsOver x p plain_of_lem out (left v no' yes' plain_of_lem a x p out o)
-  hands None h = not_opened 6 (λ e. omega arith) (λ e. omega arith) h
-  hands Wrong h = not_opened 7 (λ e. omega arith) (λ e. omega arith) h
-  hands (Late c) h = late_is c
-  hands (Forward c) h = used-is c
+  hands (Err NoCandidate) h = not_opened 6 (λ e. omega arith) (λ e. omega arith) h
+  hands (Err WrongCode) h = not_opened 7 (λ e. omega arith) (λ e. omega arith) h
+  hands (Ok (Late c)) h = late_is c
+  hands (Ok (Forward c)) h = used-is c
 
 -- an outcome of 0 or 8 was not refused before
 pub opened-passed : (k : Call) (x : Context) → Opened (gives k x) → refusal_of k x ≡ 0
@@ -203,21 +202,21 @@ module _ (x : Context) where
 
   received-uses : {A : Type 0} (v : A → Values) (no' yes' : ℕ → A) (plain_of_lem : ℕ → List ℕ) (a : Answering v no' yes' plain_of_lem) (p : ℕ) (out : List ℕ) (o : Opening)
       → UsedAs p (Unit {0}) (left v no' yes' plain_of_lem a x p out o)
-  received-uses v no' yes' plain_of_lem a p out None u = let z : ◌≡◌ {A = ℕ} 0 1 = cc (a.refuses 6) in absurd (omega arith)
-  received-uses v no' yes' plain_of_lem a p out Wrong u = let z : ◌≡◌ {A = ℕ} 0 1 = cc (a.refuses 7) in absurd (omega arith)
-  received-uses v no' yes' plain_of_lem a p out (Late c) u = inr (tt, rw (a.count c))
-  received-uses v no' yes' plain_of_lem a p out (Forward c) u = inl (rw (a.count c))
+  received-uses v no' yes' plain_of_lem a p out (Err NoCandidate) u = let z : ◌≡◌ {A = ℕ} 0 1 = cc (a.refuses 6) in absurd (omega arith)
+  received-uses v no' yes' plain_of_lem a p out (Err WrongCode) u = let z : ◌≡◌ {A = ℕ} 0 1 = cc (a.refuses 7) in absurd (omega arith)
+  received-uses v no' yes' plain_of_lem a p out (Ok (Late c)) u = inr (tt, rw (a.count c))
+  received-uses v no' yes' plain_of_lem a p out (Ok (Forward c)) u = inl (rw (a.count c))
 
-  octet-uses : (n : ℕ) (o : Opening) → ((c : ℕ) → o ≡ Late c → ⊥)
+  octet-uses : (n : ℕ) (o : Opening) → ((c : ℕ) → o ≡ Ok (Late c) → ⊥)
       → UsedAs container_place ⊥ (outcome verify_values (received x container_place (octet_refused x n) (octet_used x n) o))
-  octet-uses n None never u = let z : ◌≡◌ {A = ℕ} 0 1 = cc in absurd (omega arith)
-  octet-uses n Wrong never u = let z : ◌≡◌ {A = ℕ} 0 1 = cc in absurd (omega arith)
-  octet-uses n (Late c) never u = absurd (never c refl)
-  octet-uses n (Forward c) never u = inl refl
+  octet-uses n (Err NoCandidate) never u = let z : ◌≡◌ {A = ℕ} 0 1 = cc in absurd (omega arith)
+  octet-uses n (Err WrongCode) never u = let z : ◌≡◌ {A = ℕ} 0 1 = cc in absurd (omega arith)
+  octet-uses n (Ok (Late c)) never u = absurd (never c refl)
+  octet-uses n (Ok (Forward c)) never u = inl refl
 
-  pub octet-never-late : (n c : ℕ) → octet_found x n ≡ Late c → ⊥
+  pub octet-never-late : (n c : ℕ) → octet_found x n ≡ Ok (Late c) → ⊥
   unfolding forward_only
-  octet-never-late n c e = never ((answers (λ c'. true) Nothing (forward_of 8 (wraps x.core) (record_at x container_place) n) (Late c)).0 e).0
+  octet-never-late n c e = never ((answers (λ c'. true) None (forward_of 8 (wraps x.core) (record_at x container_place) n) (Ok (Late c))).0 e).0
 
   passes-uses : (k : Call) → UsedAs (place_in k) (MayBeLate k) (passes k x)
   unfolding eps_opened eps_handed
@@ -290,35 +289,35 @@ module _ (x : Context) (p b d : ℕ) (m out : List ℕ) where
 
   tells-left : (o : Opening) → Opened (open_left o)
       → ((open_left o).values.header ≡ type_of m) × ((open_left o).values.carried ≡ carried x p b d m out (open_left o).values.count)
-  tells-left None (inl h) = absurd (omega arith)
-  tells-left None (inr h) = absurd (omega arith)
-  tells-left Wrong (inl h) = absurd (omega arith)
-  tells-left Wrong (inr h) = absurd (omega arith)
-  tells-left (Late c) h = rw ((open-answering x p b d m out).count c) (tells_as c)
-  tells-left (Forward c) h = rw ((open-answering x p b d m out).count c) (tells_as c)
+  tells-left (Err NoCandidate) (inl h) = absurd (omega arith)
+  tells-left (Err NoCandidate) (inr h) = absurd (omega arith)
+  tells-left (Err WrongCode) (inl h) = absurd (omega arith)
+  tells-left (Err WrongCode) (inr h) = absurd (omega arith)
+  tells-left (Ok (Late c)) h = rw ((open-answering x p b d m out).count c) (tells_as c)
+  tells-left (Ok (Forward c)) h = rw ((open-answering x p b d m out).count c) (tells_as c)
 
   carries-left : (o : Opening) → (open_left o).values.number ≡ 8 → In (open_left o).values.carried (9 ∷ 10 ∷ 11 ∷ 18 ∷ [])
-  carries-left None h = absurd (omega arith)
-  carries-left Wrong h = absurd (omega arith)
-  carries-left (Late c) h = content-as c h
-  carries-left (Forward c) h = content-as c h
+  carries-left (Err NoCandidate) h = absurd (omega arith)
+  carries-left (Err WrongCode) h = absurd (omega arith)
+  carries-left (Ok (Late c)) h = content-as c h
+  carries-left (Ok (Forward c)) h = content-as c h
 
   success-left : (o : Opening) → (open_left o).values.number ≡ 0 → (open_left o).values.carried ≡ 0
-  success-left None h = refl
-  success-left Wrong h = refl
-  success-left (Late c) h = success-as c h
-  success-left (Forward c) h = success-as c h
+  success-left (Err NoCandidate) h = refl
+  success-left (Err WrongCode) h = refl
+  success-left (Ok (Late c)) h = success-as c h
+  success-left (Ok (Forward c)) h = success-as c h
 
 eps-carries : (x : Context) (m out : List ℕ) (o : Opening)
     → let w = (left eps_open_values eps.Refused (eps_as x m out) (λ c. drop 6 m) (eps-answering x m out) x eps_place out o).values in w.number ≡ 8 → w.carried ≡ 12
-eps-carries x m out None h = absurd (omega arith)
-eps-carries x m out Wrong h = absurd (omega arith)
-eps-carries x m out (Late c) h = go (not_eps (drop 6 m)) h
+eps-carries x m out (Err NoCandidate) h = absurd (omega arith)
+eps-carries x m out (Err WrongCode) h = absurd (omega arith)
+eps-carries x m out (Ok (Late c)) h = go (not_eps (drop 6 m)) h
   where
     go : (t : Bool) → let w = eps_open_values (cond t (eps.Content c (distance_of (record_at x eps_place) c) (length (drop 6 m)) 12) (eps.Accepted c (distance_of (record_at x eps_place) c) (length (drop 6 m)))) in w.number ≡ 8 → w.carried ≡ 12
     go true e = refl
     go false e = absurd (omega arith)
-eps-carries x m out (Forward c) h = go (not_eps (drop 6 m)) h
+eps-carries x m out (Ok (Forward c)) h = go (not_eps (drop 6 m)) h
   where
     go : (t : Bool) → let w = eps_open_values (cond t (eps.Content c (distance_of (record_at x eps_place) c) (length (drop 6 m)) 12) (eps.Accepted c (distance_of (record_at x eps_place) c) (length (drop 6 m)))) in w.number ≡ 8 → w.carried ≡ 12
     go true e = refl

@@ -1,4 +1,5 @@
 -- Demand 2: what a seal writes, and the round trip.
+use Rattle.std.specs.Prelude.{Ok, Err}
 use Prim.Native.Nat.{ℕ, ◌+◌, ◌≤◌}
 use mathlib.Core.Path.{◌≡◌, refl, sym, ap, ◌∙◌, subst}
 use mathlib.Core.Bool.{Bool, true, false, cond, ◌||◌}
@@ -9,8 +10,9 @@ use lib.ListN.{length, get_or, drop}
 use lib.Seq.{take-append_seam}
 use lib.Dec.{ltb}
 use borrow.Author.Tests.{ltb-false}
-use Rattle.count.specs.declared.Opening.{Opening}
-use Rattle.count.specs.declared.Opening.TheVariants.{Late, Forward, None, Wrong}
+use Rattle.count.specs.Rule.{Opening}
+use Rattle.count.specs.declared.Taken.TheVariants.{Late, Forward}
+use Rattle.count.specs.declared.Missed.TheVariants.{NoCandidate, WrongCode}
 use Rattle.count.specs.Run.{In}
 use Rattle.refusals.proofs.Laws.{passed, off}
 use Rattle.nas_core.specs.Keyed.{payload}
@@ -27,8 +29,8 @@ use Rattle.nas_5gs.specs.declared.Context.{Context}
 use Rattle.nas_5gs.specs.declared.Direction.{Direction}
 use Rattle.nas_5gs.specs.declared.Direction.TheVariants.{Uplink}
 use Rattle.nas_5gs.specs.declared.Connection.{Connection}
-use Rattle.nas_5gs.specs.declared.OpenAnswer.TheVariants as open'
-use Rattle.nas_5gs.specs.declared.EpsOpenAnswer.TheVariants as eps
+use Rattle.nas_5gs.specs.OpenAnswer as open'
+use Rattle.nas_5gs.specs.EpsOpenAnswer as eps
 use Rattle.nas_5gs.specs.Places.{direction_no, bearer_no, place_of, next_at}
 use Rattle.nas_5gs.specs.Leaves.{over, use_next, open_values, eps_open_values}
 use Rattle.nas_5gs.specs.Envelope.{wrong_type, ciphers, envelope}
@@ -189,10 +191,10 @@ module _ (x : Context) (c : ℕ) (inner room : List ℕ) where
       (names holding eps_open_values eps.Refused (eps_as x m_eps room) (λ c. drop 6 m_eps) a x eps_place room (eps_found x m_eps room) c u'.0 u'.1))
 
   eps-number : not_eps (drop 6 m_eps) ≡ false → (o : Opening) → (eps_left o).values.uses ≡ true → (eps_left o).values.number ≡ 0
-  eps-number e None u = let z : ◌≡◌ {A = ℕ} 0 1 = cc in absurd (omega arith)
-  eps-number e Wrong u = let z : ◌≡◌ {A = ℕ} 0 1 = cc in absurd (omega arith)
-  eps-number e (Late c') u = rw e
-  eps-number e (Forward c') u = rw e
+  eps-number e (Err NoCandidate) u = let z : ◌≡◌ {A = ℕ} 0 1 = cc in absurd (omega arith)
+  eps-number e (Err WrongCode) u = let z : ◌≡◌ {A = ℕ} 0 1 = cc in absurd (omega arith)
+  eps-number e (Ok (Late c')) u = rw e
+  eps-number e (Ok (Forward c')) u = rw e
 
   eps-succeeds : not_eps inner ≡ false → Uses (gives (open_eps m_eps room) x) c → Succeeds (gives (open_eps m_eps room) x)
   eps-succeeds e u =

@@ -22,7 +22,7 @@ use Rattle.nas_5gs.specs.declared.Direction.{Direction}
 use Rattle.nas_5gs.specs.declared.Direction.TheVariants.{Uplink, Downlink}
 use Rattle.nas_5gs.specs.declared.Connection.{Connection}
 use Rattle.nas_5gs.specs.declared.Connection.TheVariants.{ThreeGpp, Non3Gpp}
-use Rattle.nas_5gs.specs.declared.ChangeAnswer.TheVariants.{Refused, Done}
+use Rattle.nas_core.specs.ChangeAnswer.{Refused, Done}
 use Rattle.nas_5gs.specs.Places.{direction_no, bearer_no, place_of, four, any_over, record_at, next_at, fault_of}
 use Rattle.nas_5gs.specs.Leaves.{leaves}
 use Rattle.nas_5gs.specs.Changes.{core_with, context_with, refused_context, new_of, restore_of, closed, kept_for, reselect_of}

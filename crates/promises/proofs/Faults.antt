@@ -1,4 +1,5 @@
 -- What a context holds stays without fault, under null integrity too.
+use Rattle.std.specs.Prelude.{None}
 use Prim.Native.Nat.{ℕ, zero, suc, ◌+◌, ◌≤◌, ◌<◌}
 use mathlib.Core.Path.{◌≡◌, refl}
 use mathlib.Core.Bool.{Bool, true, false, cond, ◌||◌}
@@ -8,7 +9,6 @@ use native.Mathlib.Omega.{arith}
 use lib.ListN.{get_or}
 use lib.Dec.{ltb}
 use borrow.Author.Tests.{ltb-false}
-use Rattle.count.specs.declared.Candidate.TheVariants.{Nothing}
 use Rattle.count.specs.Rule.{exhausted, late_of, opening, forward_only}
 use Rattle.count.specs.Run.{stay, close, act_of}
 use Rattle.refusals.specs.Order.{◌when◌}
@@ -68,12 +68,12 @@ faultless x e =
 verify-bounded : (x : Context) (p b d q : ℕ) (m : List ℕ) → Bounded (act_of (wraps x.core) (verify_of x.core (record_at x p) b d q m))
 unfolding verify_of opening
 verify-bounded x p b d q m =
-    tried-bounded 8 (wraps x.core) (λ c. fits x.core c b d q m) (cond (wraps x.core) Nothing (late_of 8 x.core.size (record_at x p) (get_or m (q + 4) 0)))
+    tried-bounded 8 (wraps x.core) (λ c. fits x.core c b d q m) (cond (wraps x.core) None (late_of 8 x.core.size (record_at x p) (get_or m (q + 4) 0)))
     (record_at x p) (get_or m (q + 4) 0)
 
 octet-bounded : (x : Context) (s : ℕ) → Bounded (passing (verify_n1_to_s1 s) x)
 unfolding forward_only
-octet-bounded x s = tried-bounded 8 (wraps x.core) (λ c. true) Nothing (record_at x container_place) s
+octet-bounded x s = tried-bounded 8 (wraps x.core) (λ c. true) None (record_at x container_place) s
 
 closing-bounded : (t : Bool) → Bounded (cond t close stay)
 closing-bounded true = tt

@@ -1,4 +1,5 @@
 -- Isolation: what a call answers hangs on keys, codes, size, its own record and the context's faults.
+use Rattle.std.specs.Prelude.{Ok, Err}
 use Prim.Native.Nat.{ℕ, ◌<◌}
 use mathlib.Core.Path.{◌≡◌, refl, sym, ap, ◌∙◌, subst}
 use mathlib.Core.Bool.{Bool, true, false, cond}
@@ -8,20 +9,19 @@ use native.Mathlib.Omega.{arith}
 use lib.ListN.{drop}
 use lib.Dec.{eqb}
 use borrow.Author.Tests.{eqb-true, eqb-false}
-use Rattle.count.specs.declared.Opening.{Opening}
-use Rattle.count.specs.declared.Opening.TheVariants.{Late, Forward, None, Wrong}
+use Rattle.count.specs.Rule.{Opening, distance_of}
+use Rattle.count.specs.declared.Taken.TheVariants.{Late, Forward}
+use Rattle.count.specs.declared.Missed.TheVariants.{NoCandidate, WrongCode}
 use Rattle.count.specs.declared.Record.{Record}
-use Rattle.count.specs.Rule.{distance_of}
 use Rattle.count.specs.Run.{State, Act, stay, uses, resize, close, act_of}
 use Rattle.count.proofs.Lifting.{others}
 use Rattle.nas_core.specs.Keyed.{wraps}
 use Rattle.nas_5gs.specs.declared.Context.{Context}
-use Rattle.nas_5gs.specs.declared.Direction.TheVariants.{Uplink}
 use Rattle.nas_5gs.specs.declared.Direction.TheVariants.{Uplink, Downlink}
 use Rattle.nas_5gs.specs.declared.Connection.TheVariants.{ThreeGpp, Non3Gpp}
-use Rattle.nas_5gs.specs.declared.OpenAnswer.TheVariants as open'
-use Rattle.nas_5gs.specs.declared.EpsOpenAnswer.TheVariants as eps
-use Rattle.nas_5gs.specs.declared.VerifyAnswer.TheVariants as verify
+use Rattle.nas_5gs.specs.OpenAnswer as open'
+use Rattle.nas_5gs.specs.EpsOpenAnswer as eps
+use Rattle.nas_5gs.specs.VerifyAnswer as verify
 use Rattle.nas_5gs.specs.Places.{direction_no, bearer_no, place_of, record_at, fault_of}
 use Rattle.nas_5gs.specs.Leaves.{leaves, over, use_next, received, Values, open_values, eps_open_values, verify_values}
 use Rattle.nas_5gs.specs.Envelope.{envelope}
@@ -48,10 +48,10 @@ Quiet (resize n) = ⊥
 Quiet close = ⊥
 
 found-quiet : (w : Bool) (o : Opening) → Quiet (act_of w o)
-found-quiet w (Late c) = tt
-found-quiet w (Forward c) = tt
-found-quiet w None = tt
-found-quiet w Wrong = tt
+found-quiet w (Ok (Late c)) = tt
+found-quiet w (Ok (Forward c)) = tt
+found-quiet w (Err NoCandidate) = tt
+found-quiet w (Err WrongCode) = tt
 
 passing-quiet : (k : Call) (x : Context) → place_in k < 4 → Quiet (passing k x)
 passing-quiet (set_window n) x h = absurd (omega arith)
@@ -139,10 +139,10 @@ module _ (x : Context) (l : List Record) where
     received-same : {A : Type 0} (v : A → Values) (p : ℕ) (n' y' : ℕ → A) (plain_of_lem : ℕ → List ℕ) (out : List ℕ) (o : Opening)
         → Same (outcome v (received y p (λ n. leaves (n' n) y out) (λ c z. leaves (y' c) z (over (plain_of_lem c) out)) o))
         (outcome v (received x p (λ n. leaves (n' n) x out) (λ c z. leaves (y' c) z (over (plain_of_lem c) out)) o))
-    received-same v p n' y' plain_of_lem out None = (refl, refl)
-    received-same v p n' y' plain_of_lem out Wrong = (refl, refl)
-    received-same v p n' y' plain_of_lem out (Late c) = (refl, refl)
-    received-same v p n' y' plain_of_lem out (Forward c) = (refl, refl)
+    received-same v p n' y' plain_of_lem out (Err NoCandidate) = (refl, refl)
+    received-same v p n' y' plain_of_lem out (Err WrongCode) = (refl, refl)
+    received-same v p n' y' plain_of_lem out (Ok (Late c)) = (refl, refl)
+    received-same v p n' y' plain_of_lem out (Ok (Forward c)) = (refl, refl)
 
     same-passes : (k : Call) → place_in k < 4 → record_at y (place_in k) ≡ record_at x (place_in k) → Same (passes k y) (passes k x)
     unfolding eps_opened eps_handed
@@ -168,10 +168,10 @@ module _ (x : Context) (l : List Record) where
         octet-same : (o : Opening)
             → Same (outcome verify_values (received y container_place (octet_refused y s) (octet_used y s) o))
             (outcome verify_values (received x container_place (octet_refused x s) (octet_used x s) o))
-        octet-same None = (refl, refl)
-        octet-same Wrong = (refl, refl)
-        octet-same (Late c) = (far-same c, refl)
-        octet-same (Forward c) = (far-same c, refl)
+        octet-same (Err NoCandidate) = (refl, refl)
+        octet-same (Err WrongCode) = (refl, refl)
+        octet-same (Ok (Late c)) = (far-same c, refl)
+        octet-same (Ok (Forward c)) = (far-same c, refl)
     same-passes (make_s1_to_n1 ncc ngksi out) on e = sends-same container_place (λ c. s1_to_n1 x.core ncc ngksi) out e
     same-passes (verify_s1_to_n1 v) on e = sends-same container_place (λ c. []) [] e
 
@@ -185,10 +185,10 @@ module _ (x : Context) (l : List Record) where
 
     seconds-same : (p : ℕ) (out2 : List ℕ) (q : ℕ → List ℕ) (o : Opening)
         → received y p (λ n. out2) (λ c z. over (q c) out2) o ≡ received x p (λ n. out2) (λ c z. over (q c) out2) o
-    seconds-same p out2 q None = refl
-    seconds-same p out2 q Wrong = refl
-    seconds-same p out2 q (Late c) = refl
-    seconds-same p out2 q (Forward c) = refl
+    seconds-same p out2 q (Err NoCandidate) = refl
+    seconds-same p out2 q (Err WrongCode) = refl
+    seconds-same p out2 q (Ok (Late c)) = refl
+    seconds-same p out2 q (Ok (Forward c)) = refl
 
     same_second : (k : Call) → record_at y (place_in k) ≡ record_at x (place_in k) → second k y ≡ second k x
     same_second (set_window n) e = refl

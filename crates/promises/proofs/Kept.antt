@@ -19,7 +19,7 @@ use Rattle.nas_core.specs.Keyed.{code_by, payload}
 use Rattle.nas_core.specs.Refusals.{unbuilt}
 use Rattle.refusals.specs.Order.{◌when◌, first, refused_or}
 use Rattle.nas_5gs.specs.declared.Context.{Context}
-use Rattle.nas_5gs.specs.declared.ChangeAnswer.TheVariants as change
+use Rattle.nas_core.specs.ChangeAnswer as change
 use Rattle.nas_5gs.specs.Leaves.{leaves, change_values}
 use Rattle.nas_5gs.specs.Places.{four, any_over}
 use Rattle.nas_5gs.specs.Changes.{context_with, refused_context, new_of, restore_of}

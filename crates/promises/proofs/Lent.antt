@@ -6,7 +6,7 @@ use lib.ListN.{length}
 use Rattle.nas_5gs.specs.declared.Context.{Context}
 use Rattle.nas_5gs.specs.declared.Direction.{Direction}
 use Rattle.nas_5gs.specs.declared.Connection.{Connection}
-use Rattle.nas_5gs.specs.declared.UseAnswer.TheVariants.{Used}
+use Rattle.nas_core.specs.UseAnswer.{Used}
 use Rattle.nas_5gs.specs.Leaves.{Leaves, leaves, use_values}
 use Rattle.nas_5gs.specs.Seal.{seal_of}
 use Rattle.promises.specs.Calls.{Call, seal5gs, Outcome, outcome, lent}

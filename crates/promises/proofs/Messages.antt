@@ -7,8 +7,7 @@ use mathlib.Core.List.{List, []}
 use native.Mathlib.Omega.{arith}
 use lib.ListN.{length, drop}
 use lib.Dec.{eqb}
-use Rattle.count.specs.declared.Opening.{Opening}
-use Rattle.count.specs.Rule.{exhausted, opening}
+use Rattle.count.specs.Rule.{Opening, exhausted, opening}
 use Rattle.count.specs.Run.{Act, stay, act, act_of, used, Valid}
 use Rattle.count.specs.Machine.{Machine, records_after}
 use Rattle.nas_core.specs.declared.Core.{Core}

@@ -1,4 +1,5 @@
 -- Null integrity, over the calls.
+use Rattle.std.specs.Prelude.{None, Ok, Err}
 use Prim.Native.Nat.{ℕ, ◌+◌, ◌%◌, ◌≤◌, ◌<◌}
 use mathlib.Core.Path.{◌≡◌, refl, sym, ap, ◌∙◌}
 use mathlib.Core.Bool.{Bool, true}
@@ -7,10 +8,9 @@ use mathlib.Core.List.{List, [], ◌∷◌}
 use native.Mathlib.Omega.{arith}
 use lib.ListN.{get_or, drop}
 use borrow.Author.Tests.{eqb-true}
-use Rattle.count.specs.declared.Opening.{Opening}
-use Rattle.count.specs.declared.Opening.TheVariants.{Late, Forward, None, Wrong}
-use Rattle.count.specs.declared.Candidate.TheVariants.{Nothing}
-use Rattle.count.specs.Rule.{exhausted, distance, forward_of, forward_only, use_round}
+use Rattle.count.specs.Rule.{Opening, exhausted, distance, forward_of, forward_only, use_round}
+use Rattle.count.specs.declared.Taken.TheVariants.{Late, Forward}
+use Rattle.count.specs.declared.Missed.TheVariants.{NoCandidate, WrongCode}
 use Rattle.count.specs.Run.{State, Act, stay, uses, forward, late, round, resize, close, act, act_of, used}
 use Rattle.count.proofs.Null.{null}
 use Rattle.count.proofs.Candidates.{never}
@@ -20,8 +20,8 @@ use Rattle.nas_core.specs.Keyed.{wraps, code_by}
 use Rattle.nas_core.specs.Verify.{fits, verify_of}
 use Rattle.nas_5gs.specs.declared.Context.{Context}
 use Rattle.nas_5gs.specs.declared.Direction.TheVariants.{Uplink}
-use Rattle.nas_5gs.specs.declared.OpenAnswer.TheVariants as open'
-use Rattle.nas_5gs.specs.declared.EpsOpenAnswer.TheVariants as eps
+use Rattle.nas_5gs.specs.OpenAnswer as open'
+use Rattle.nas_5gs.specs.EpsOpenAnswer as eps
 use Rattle.nas_5gs.specs.Places.{direction_no, bearer_no, place_of, record_at, next_at}
 use Rattle.nas_5gs.specs.Leaves.{open_values, eps_open_values}
 use Rattle.nas_5gs.specs.Eps.{eps_place, eps_bearer, eps_direction}
@@ -45,10 +45,10 @@ Round (resize n) = ⊥
 Round close = ⊥
 
 round-only : (fit : ℕ → Bool) (s : State) (n : ℕ) (o : Opening) → forward_only 8 true fit s.at n ≡ o → Round (act_of true o)
-round-only fit s n (Late c) e = (null 8 fit s n).never-late c e
-round-only fit s n (Forward c) e = tt
-round-only fit s n None e = tt
-round-only fit s n Wrong e = tt
+round-only fit s n (Ok (Late c)) e = (null 8 fit s n).never-late c e
+round-only fit s n (Ok (Forward c)) e = tt
+round-only fit s n (Err NoCandidate) e = tt
+round-only fit s n (Err WrongCode) e = tt
 
 module _ (x : Context) (w : wraps x.core ≡ true) where
   next-round : (p : ℕ) → Round (next x p)
@@ -117,14 +117,14 @@ module _ (x : Context) (w : wraps x.core ≡ true) (p b d q : ℕ) (m : List ℕ
   abbrev taken : Opening
   taken = verify_of x.core (record_at x p) b d q m
 
-  found-round : next_at x p < exhausted → taken ≡ Forward candidate
+  found-round : next_at x p < exhausted → taken ≡ Ok (Forward candidate)
   unfolding forward_only
   found-round h =
       verify-only x w p b d q m
-      ∙ (answers fit Nothing (forward_of 8 true (record_at x p) (get_or m (q + 4) 0)) (Forward candidate)).1
+      ∙ (answers fit None (forward_of 8 true (record_at x p) (get_or m (q + 4) 0)) (Ok (Forward candidate))).1
       ((λ c e. never e), (null 8 fit (record_of p x) (get_or m (q + 4) 0)).goes-round h, fits_all x w b d q m candidate)
 
-  found_none : exhausted ≤ next_at x p → taken ≡ None
+  found_none : exhausted ≤ next_at x p → taken ≡ Err NoCandidate
   found_none h = verify-only x w p b d q m ∙ (null 8 fit (record_of p x) (get_or m (q + 4) 0)).stays-exhausted h
 
 pub null-holds : NullHolds

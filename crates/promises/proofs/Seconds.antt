@@ -1,4 +1,5 @@
 -- The second output: what a call leaves there.
+use Rattle.std.specs.Prelude.{Ok, Err}
 use Prim.Native.Nat.{ℕ, ◌-◌, ◌≤◌}
 use mathlib.Core.Path.{◌≡◌, refl, sym, ap, ◌∙◌}
 use mathlib.Core.Bool.{Bool, true, false, cond}
@@ -8,9 +9,9 @@ use lib.ListN.{length, drop, length-append, length-drop, length-take}
 use lib.Seq.{drop-append_seam}
 use lib.Dec.{eqb}
 use borrow.Author.Tests.{eqb-true, eqb-false, ne_eqb}
-use Rattle.count.specs.declared.Opening.{Opening}
-use Rattle.count.specs.declared.Opening.TheVariants.{Late, Forward, None, Wrong}
-use Rattle.count.specs.Rule.{distance_of}
+use Rattle.count.specs.Rule.{Opening, distance_of}
+use Rattle.count.specs.declared.Taken.TheVariants.{Late, Forward}
+use Rattle.count.specs.declared.Missed.TheVariants.{NoCandidate, WrongCode}
 use Rattle.nas_core.specs.declared.Core.{Core}
 use Rattle.nas_core.specs.Keyed.{payload}
 use Rattle.nas_core.proofs.Keys.{payload-length}
@@ -24,9 +25,9 @@ use Rattle.envelope.proofs.Insides.{asked_is}
 use Rattle.nas_5gs.specs.declared.Context.{Context}
 use Rattle.nas_5gs.specs.declared.Direction.{Direction}
 use Rattle.nas_5gs.specs.declared.Connection.{Connection}
-use Rattle.nas_5gs.specs.declared.OpenAnswer.TheVariants as open'
+use Rattle.nas_5gs.specs.OpenAnswer as open'
 use Rattle.nas_5gs.specs.Places.{direction_no, bearer_no, place_of, record_at}
-use Rattle.nas_5gs.specs.declared.EpsOpenAnswer.TheVariants as eps
+use Rattle.nas_5gs.specs.EpsOpenAnswer as eps
 use Rattle.nas_5gs.specs.Leaves.{leaves, over, use_next, received, open_values, eps_open_values, verify_values, Values}
 use Rattle.nas_5gs.specs.Envelope.{ciphers}
 use Rattle.nas_5gs.specs.Open.{type_of, inside_number}
@@ -137,18 +138,18 @@ module _ (x : Context) (p b d : ℕ) (m out : List ℕ) where
   second_by out2 o = received x p (λ n. out2) (λ c y. over (beside (inside x p b d m out c)) out2) o
 
   by-found : (out2 : List ℕ) → (type_of m ≡ 1 → d ≡ 0 → length m - 7 ≤ length out2) → (o : Opening) → Seconds (first_by o).values (second_by out2 o) out2
-  by-found out2 fit None = none_written (first_by None).values out2 out2 refl refl
-  by-found out2 fit Wrong = none_written (first_by Wrong).values out2 out2 refl refl
-  by-found out2 fit (Late c) = written_over (values_as c) (beside (inside x p b d m out c)) out2 (second-as c) (short c out2 fit) (number-as c)
-  by-found out2 fit (Forward c) = written_over (values_as c) (beside (inside x p b d m out c)) out2 (second-as c) (short c out2 fit) (number-as c)
+  by-found out2 fit (Err NoCandidate) = none_written (first_by (Err NoCandidate)).values out2 out2 refl refl
+  by-found out2 fit (Err WrongCode) = none_written (first_by (Err WrongCode)).values out2 out2 refl refl
+  by-found out2 fit (Ok (Late c)) = written_over (values_as c) (beside (inside x p b d m out c)) out2 (second-as c) (short c out2 fit) (number-as c)
+  by-found out2 fit (Ok (Forward c)) = written_over (values_as c) (beside (inside x p b d m out c)) out2 (second-as c) (short c out2 fit) (number-as c)
 
   pub told-second : (out2 : List ℕ) (o : Opening) → ((first_by o).values.uses ≡ true)
       → ((first_by o).values.second ≡ length (beside (inside x p b d m out (first_by o).values.count)))
       × (second_by out2 o ≡ over (beside (inside x p b d m out (first_by o).values.count)) out2)
-  told-second out2 None u = let z : ◌≡◌ {A = ℕ} 0 1 = cc in absurd (omega arith)
-  told-second out2 Wrong u = let z : ◌≡◌ {A = ℕ} 0 1 = cc in absurd (omega arith)
-  told-second out2 (Late c) u = rw ((open-answering x p b d m out).count c) (second-as c, refl)
-  told-second out2 (Forward c) u = rw ((open-answering x p b d m out).count c) (second-as c, refl)
+  told-second out2 (Err NoCandidate) u = let z : ◌≡◌ {A = ℕ} 0 1 = cc in absurd (omega arith)
+  told-second out2 (Err WrongCode) u = let z : ◌≡◌ {A = ℕ} 0 1 = cc in absurd (omega arith)
+  told-second out2 (Ok (Late c)) u = rw ((open-answering x p b d m out).count c) (second-as c, refl)
+  told-second out2 (Ok (Forward c)) u = rw ((open-answering x p b d m out).count c) (second-as c, refl)
 
 module _ (x : Context) (d : Direction) (k : Connection) (m out out2 : List ℕ) (e : refusal_of (open5gs d k m out out2) x ≡ 0) where
   pub second-left : second (open5gs d k m out out2) x ≡ opened_second x (place_of d k) (bearer_no k) (direction_no d) m out out2
@@ -171,24 +172,24 @@ zero-by k x e = rw (gives-is k x) (go (eqb (refusal_of k x) 0))
 
 eps-zero : (x : Context) (m out : List ℕ) (o : Opening)
     → (left eps_open_values eps.Refused (eps_as x m out) (λ c. drop 6 m) (eps-answering x m out) x eps_place out o).values.second ≡ 0
-eps-zero x m out None = refl
-eps-zero x m out Wrong = refl
-eps-zero x m out (Late c) = go (not_eps (drop 6 m))
+eps-zero x m out (Err NoCandidate) = refl
+eps-zero x m out (Err WrongCode) = refl
+eps-zero x m out (Ok (Late c)) = go (not_eps (drop 6 m))
   where
     go : (t : Bool) → (eps_open_values (cond t (eps.Content c (distance_of (record_at x eps_place) c) (length (drop 6 m)) 12) (eps.Accepted c (distance_of (record_at x eps_place) c) (length (drop 6 m))))).second ≡ 0
     go true = refl
     go false = refl
-eps-zero x m out (Forward c) = go (not_eps (drop 6 m))
+eps-zero x m out (Ok (Forward c)) = go (not_eps (drop 6 m))
   where
     go : (t : Bool) → (eps_open_values (cond t (eps.Content c (distance_of (record_at x eps_place) c) (length (drop 6 m)) 12) (eps.Accepted c (distance_of (record_at x eps_place) c) (length (drop 6 m))))).second ≡ 0
     go true = refl
     go false = refl
 
 octet-zero : (x : Context) (s : ℕ) (o : Opening) → (outcome verify_values (received x container_place (octet_refused x s) (octet_used x s) o)).values.second ≡ 0
-octet-zero x s None = refl
-octet-zero x s Wrong = refl
-octet-zero x s (Late c) = refl
-octet-zero x s (Forward c) = refl
+octet-zero x s (Err NoCandidate) = refl
+octet-zero x s (Err WrongCode) = refl
+octet-zero x s (Ok (Late c)) = refl
+octet-zero x s (Ok (Forward c)) = refl
 
 pub seconds : (k : Call) (x : Context) → Seconds (gives k x).values (second k x) (lent_second k)
 unfolding use_next eps_opened eps_handed

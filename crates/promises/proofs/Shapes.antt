@@ -1,4 +1,5 @@
 -- The calls on a 5GS context: each does one act on one record, and answers the COUNT that it used.
+use Rattle.std.specs.Prelude.{Ok, Err}
 use Prim.Native.Nat.{ℕ, ◌%◌}
 use mathlib.Core.Path.{◌≡◌, refl, ap, ◌∙◌}
 use mathlib.Core.Bool.{Bool, true, false, cond}
@@ -9,9 +10,9 @@ use lib.ListN.{length, get_or, set, drop}
 use lib.Dec.{eqb, ltb}
 use Rattle.aes.specs.Keys.{key_of}
 use Rattle.count.specs.declared.Record.{Record}
-use Rattle.count.specs.declared.Opening.{Opening}
-use Rattle.count.specs.declared.Opening.TheVariants.{Late, Forward, None, Wrong}
-use Rattle.count.specs.Rule.{resize_of, close_of, use_late, forward_only, distance_of}
+use Rattle.count.specs.Rule.{Opening, resize_of, close_of, use_late, forward_only, distance_of}
+use Rattle.count.specs.declared.Taken.TheVariants.{Late, Forward}
+use Rattle.count.specs.declared.Missed.TheVariants.{NoCandidate, WrongCode}
 use Rattle.count.specs.Run.{Act, stay, resize, close, act, act_of, used}
 use borrow.Author.Tests.{eqb-true}
 use Rattle.count.specs.Machine.{records_after}
@@ -27,15 +28,15 @@ use Rattle.nas_5gs.specs.declared.Context.{Context}
 use Rattle.nas_5gs.specs.declared.Direction.{Direction}
 use Rattle.nas_5gs.specs.declared.Direction.TheVariants.{Uplink}
 use Rattle.nas_5gs.specs.declared.Connection.{Connection}
-use Rattle.nas_5gs.specs.declared.ChangeAnswer.TheVariants as change
-use Rattle.nas_5gs.specs.declared.UseAnswer.TheVariants as use'
-use Rattle.nas_5gs.specs.declared.OpenAnswer.{OpenAnswer}
-use Rattle.nas_5gs.specs.declared.OpenAnswer.TheVariants as open'
-use Rattle.nas_5gs.specs.declared.EpsOpenAnswer.{EpsOpenAnswer}
-use Rattle.nas_5gs.specs.declared.EpsOpenAnswer.TheVariants as eps
-use Rattle.nas_5gs.specs.declared.OctetAnswer.TheVariants as octet
-use Rattle.nas_5gs.specs.declared.VerifyAnswer.{VerifyAnswer}
-use Rattle.nas_5gs.specs.declared.VerifyAnswer.TheVariants as verify
+use Rattle.nas_core.specs.ChangeAnswer as change
+use Rattle.nas_core.specs.UseAnswer as use'
+use Rattle.nas_5gs.specs.OpenAnswer.{OpenAnswer}
+use Rattle.nas_5gs.specs.OpenAnswer as open'
+use Rattle.nas_5gs.specs.EpsOpenAnswer.{EpsOpenAnswer}
+use Rattle.nas_5gs.specs.EpsOpenAnswer as eps
+use Rattle.nas_5gs.specs.OctetAnswer as octet
+use Rattle.nas_5gs.specs.VerifyAnswer.{VerifyAnswer}
+use Rattle.nas_5gs.specs.VerifyAnswer as verify
 use Rattle.nas_5gs.specs.Places.{direction_no, bearer_no, place_of, four, record_at, next_at, fault_of, used as used_ahead, used_late}
 use Rattle.nas_5gs.specs.Leaves.{Leaves, leaves, leaves_two, over, use_next, received, refusal, change_values, use_values, open_values, eps_open_values, octet_values, verify_values}
 use Rattle.nas_5gs.specs.Changes.{core_with, closed, kept_for, reselect_of, window_of, resized}
@@ -163,10 +164,10 @@ of-refused f n r l = go (eqb n 0)
 
 of-received : {R S : Type 0} (f : R → S) (x : Context) (p : ℕ) (r : ℕ → R) (h : ℕ → Context → R) (o : Opening)
     → f (received x p r h o) ≡ received x p (λ n. f (r n)) (λ c y. f (h c y)) o
-of-received f x p r h None = refl
-of-received f x p r h Wrong = refl
-of-received f x p r h (Late c) = refl
-of-received f x p r h (Forward c) = refl
+of-received f x p r h (Err NoCandidate) = refl
+of-received f x p r h (Err WrongCode) = refl
+of-received f x p r h (Ok (Late c)) = refl
+of-received f x p r h (Ok (Forward c)) = refl
 
 -- 5GS open
 module _ (x : Context) (p b d : ℕ) (m out : List ℕ) where

@@ -1,4 +1,5 @@
 -- The distance that a call tells.
+use Rattle.std.specs.Prelude.{None, Some, Ok, Err}
 use Prim.Native.Nat.{ℕ, ◌+◌, ◌-◌, ◌%◌, ◌≤◌}
 use mathlib.Core.Path.{◌≡◌, refl, sym, ap, ◌∙◌, subst}
 use mathlib.Core.Bool.{Bool, true, false, cond}
@@ -9,10 +10,9 @@ use lib.ListN.{length, get_or, drop}
 use lib.Dec.{eqb}
 use borrow.Author.Tests.{eqb-true, eqb-false}
 use Rattle.count.specs.declared.Record.{Record}
-use Rattle.count.specs.declared.Opening.{Opening}
-use Rattle.count.specs.declared.Opening.TheVariants.{Late, Forward, None, Wrong}
-use Rattle.count.specs.declared.Candidate.TheVariants.{Nothing, At}
-use Rattle.count.specs.Rule.{exhausted, distance_of, forward_of, late_of, opening, forward_only}
+use Rattle.count.specs.Rule.{Opening, exhausted, distance_of, forward_of, late_of, opening, forward_only}
+use Rattle.count.specs.declared.Taken.TheVariants.{Late, Forward}
+use Rattle.count.specs.declared.Missed.TheVariants.{NoCandidate, WrongCode}
 use Rattle.count.proofs.Candidates.{never}
 use Rattle.count.proofs.Openings.{answers}
 use Rattle.count.proofs.Skipped.{distances}
@@ -20,9 +20,9 @@ use Rattle.nas_core.specs.Keyed.{wraps}
 use Rattle.nas_core.specs.Verify.{fits, verify_of}
 use Rattle.envelope.specs.Initial.{beside}
 use Rattle.nas_5gs.specs.declared.Context.{Context}
-use Rattle.nas_5gs.specs.declared.OpenAnswer.TheVariants as open'
-use Rattle.nas_5gs.specs.declared.EpsOpenAnswer.TheVariants as eps
-use Rattle.nas_5gs.specs.declared.VerifyAnswer.TheVariants as verify
+use Rattle.nas_5gs.specs.OpenAnswer as open'
+use Rattle.nas_5gs.specs.EpsOpenAnswer as eps
+use Rattle.nas_5gs.specs.VerifyAnswer as verify
 use Rattle.nas_5gs.specs.Places.{direction_no, bearer_no, place_of, record_at, next_at, fault_of}
 use Rattle.nas_5gs.specs.Leaves.{leaves, over, use_next, received, Values, open_values, eps_open_values, verify_values}
 use Rattle.nas_5gs.specs.Open.{type_of}
@@ -48,32 +48,32 @@ module _ {A : Type 0} (v : A → Values) (no' yes' : ℕ → A) (x : Context) (p
   left_as o = outcome v (received x p (λ n. leaves (no' n) x out) (λ c z. leaves (yes' c) z (over (plain_of_lem c) out)) o)
 
   fixed : (o : Opening) → Fixed (record_at x p) (left_as o)
-  fixed None u = let z : ◌≡◌ {A = ℕ} 0 1 = cc (refuses 6) in absurd (omega arith)
-  fixed Wrong u = let z : ◌≡◌ {A = ℕ} 0 1 = cc (refuses 7) in absurd (omega arith)
-  fixed (Late c) u = far c ∙ ap (distance_of (record_at x p)) (sym (count c))
-  fixed (Forward c) u = far c ∙ ap (distance_of (record_at x p)) (sym (count c))
+  fixed (Err NoCandidate) u = let z : ◌≡◌ {A = ℕ} 0 1 = cc (refuses 6) in absurd (omega arith)
+  fixed (Err WrongCode) u = let z : ◌≡◌ {A = ℕ} 0 1 = cc (refuses 7) in absurd (omega arith)
+  fixed (Ok (Late c)) u = far c ∙ ap (distance_of (record_at x p)) (sym (count c))
+  fixed (Ok (Forward c)) u = far c ∙ ap (distance_of (record_at x p)) (sym (count c))
 
   counted : (L : Type 0) (o : Opening)
-      → ((c : ℕ) → o ≡ Forward c → (next_at x p + distance_of (record_at x p) c) % exhausted ≡ c)
-      → ((c : ℕ) → o ≡ Late c → L × (c + distance_of (record_at x p) c ≡ next_at x p - 1))
+      → ((c : ℕ) → o ≡ Ok (Forward c) → (next_at x p + distance_of (record_at x p) c) % exhausted ≡ c)
+      → ((c : ℕ) → o ≡ Ok (Late c) → L × (c + distance_of (record_at x p) c ≡ next_at x p - 1))
       → (left_as o).values.uses ≡ true → Counted L x p (left_as o)
-  counted L None a l u = let z : ◌≡◌ {A = ℕ} 0 1 = cc (refuses 6) in absurd (omega arith)
-  counted L Wrong a l u = let z : ◌≡◌ {A = ℕ} 0 1 = cc (refuses 7) in absurd (omega arith)
-  counted L (Late c) a l u = let q = l c refl in inr (q.0, rw (count c), rw (far c, count c) q.1)
-  counted L (Forward c) a l u = inl (rw (count c), rw (far c, count c) (a c refl))
+  counted L (Err NoCandidate) a l u = let z : ◌≡◌ {A = ℕ} 0 1 = cc (refuses 6) in absurd (omega arith)
+  counted L (Err WrongCode) a l u = let z : ◌≡◌ {A = ℕ} 0 1 = cc (refuses 7) in absurd (omega arith)
+  counted L (Ok (Late c)) a l u = let q = l c refl in inr (q.0, rw (count c), rw (far c, count c) q.1)
+  counted L (Ok (Forward c)) a l u = inl (rw (count c), rw (far c, count c) (a c refl))
 
 -- what an opening finds lies so far away
 module _ (w : Bool) (fit : ℕ → Bool) (size : ℕ) (r : Record) (s c : ℕ) where
-  forward-far : opening 8 w fit size r s ≡ Forward c → (r.next + distance_of r c) % exhausted ≡ c
+  forward-far : opening 8 w fit size r s ≡ Ok (Forward c) → (r.next + distance_of r c) % exhausted ≡ c
   unfolding opening
   forward-far e =
-      ((distances 8 r s).forward w c (omega arith) ((answers fit (cond w Nothing (late_of 8 size r s)) (forward_of 8 w r s) (Forward c)).0 e).1).1
+      ((distances 8 r s).forward w c (omega arith) ((answers fit (cond w None (late_of 8 size r s)) (forward_of 8 w r s) (Ok (Forward c))).0 e).1).1
 
-  late-far : size ≤ 64 → opening 8 w fit size r s ≡ Late c → c + distance_of r c ≡ r.next - 1
+  late-far : size ≤ 64 → opening 8 w fit size r s ≡ Ok (Late c) → c + distance_of r c ≡ r.next - 1
   unfolding opening
-  late-far small e = go w ((answers fit (cond w Nothing (late_of 8 size r s)) (forward_of 8 w r s) (Late c)).0 e).0
+  late-far small e = go w ((answers fit (cond w None (late_of 8 size r s)) (forward_of 8 w r s) (Ok (Late c))).0 e).0
     where
-      go : (t : Bool) → cond t Nothing (late_of 8 size r s) ≡ At c → c + distance_of r c ≡ r.next - 1
+      go : (t : Bool) → cond t None (late_of 8 size r s) ≡ Some c → c + distance_of r c ≡ r.next - 1
       go true q = never q
       go false q = (distances 8 r s).late size c small q
 
@@ -118,7 +118,7 @@ module _ (x : Context) where
   passes-counted (verify_n1_to_s1 s) t small =
       let r = record_at x container_place in
       counted verify_values verify.Refused (octet_as x s) x container_place (λ c. []) [] (λ n. refl) (λ c. refl) (λ c. refl) ⊥ (octet_found x s)
-      (λ c e. ((distances 8 r s).forward (wraps x.core) c (omega arith) ((answers (λ n. true) Nothing (forward_of 8 (wraps x.core) r s) (Forward c)).0 e).1).1)
+      (λ c e. ((distances 8 r s).forward (wraps x.core) c (omega arith) ((answers (λ n. true) None (forward_of 8 (wraps x.core) r s) (Ok (Forward c))).0 e).1).1)
       (λ c e. absurd (octet-never-late x s c e))
   passes-counted (make_s1_to_n1 ncc ngksi out) t small = absurd t
   passes-counted (verify_s1_to_n1 v) t small = absurd t

@@ -8,8 +8,7 @@ use native.Mathlib.Omega.{arith}
 use lib.ListN.{length, get_or, drop}
 use lib.Dec.{eqb}
 use borrow.Author.Tests.{eqb-true, eq-eqb, ne_eqb, le-ltb}
-use Rattle.count.specs.declared.Opening.{Opening}
-use Rattle.count.specs.Rule.{exhausted, distance_of}
+use Rattle.count.specs.Rule.{Opening, exhausted, distance_of}
 use Rattle.nas_core.specs.declared.Core.{Core}
 use Rattle.nas_core.specs.Keyed.{payload}
 use Rattle.nas_core.specs.Refusals.{limit, unbuilt, core_fault}
@@ -17,8 +16,8 @@ use Rattle.envelope.specs.Initial.{beside}
 use Rattle.nas_5gs.specs.declared.Context.{Context}
 use Rattle.nas_5gs.specs.declared.Direction.{Direction}
 use Rattle.nas_5gs.specs.declared.Connection.{Connection}
-use Rattle.nas_5gs.specs.declared.OpenAnswer.TheVariants as open'
-use Rattle.nas_5gs.specs.declared.EpsOpenAnswer.TheVariants as eps
+use Rattle.nas_5gs.specs.OpenAnswer as open'
+use Rattle.nas_5gs.specs.EpsOpenAnswer as eps
 use Rattle.nas_5gs.specs.Places.{direction_no, bearer_no, place_of, record_at, next_at, fault_of}
 use Rattle.nas_5gs.specs.Leaves.{Values, open_values, eps_open_values}
 use Rattle.nas_5gs.specs.Envelope.{wrong_type, ciphers, envelope}

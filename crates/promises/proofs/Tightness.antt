@@ -1,4 +1,5 @@
 -- No second answer fits, and wrong contexts do not keep demand 3.
+use Rattle.std.specs.Prelude.{Some}
 use Prim.Native.Nat.{ℕ, ◌-◌, ◌%◌, ◌≤◌, ◌<◌}
 use mathlib.Core.Path.{◌≡◌, refl, sym, ap, ◌∙◌, subst}
 use mathlib.Core.Bool.{Bool, true, cond}
@@ -12,7 +13,6 @@ use Rattle.aes.specs.Counter.{counter, keystream, ctr_of}
 use Rattle.aes.specs.Nas.{head, nea2_of}
 use Rattle.algorithms.specs.Codes.{is_built}
 use Rattle.count.specs.declared.Record.{Record}
-use Rattle.count.specs.declared.Candidate.TheVariants.{At}
 use Rattle.count.specs.Rule.{forward_of, late_of, use_forward, resize_of}
 use Rattle.count.specs.Run.{State, Act, stay, uses, forward, late as late_use, round, resize, close, act, used, Valid, In, NoneTwice}
 use Rattle.count.proofs.Distance.{distance-ends}
@@ -22,18 +22,18 @@ use Rattle.nas_core.specs.Refusals.{unbuilt}
 use Rattle.nas_core.specs.Keyed.{wraps}
 use Rattle.nas_core.specs.Verify.{fits}
 use Rattle.nas_5gs.specs.declared.Context.{Context}
-use Rattle.nas_5gs.specs.declared.ChangeAnswer.{ChangeAnswer}
-use Rattle.nas_5gs.specs.declared.ChangeAnswer.TheVariants as change
-use Rattle.nas_5gs.specs.declared.UseAnswer.{UseAnswer}
-use Rattle.nas_5gs.specs.declared.UseAnswer.TheVariants as use'
-use Rattle.nas_5gs.specs.declared.OpenAnswer.{OpenAnswer}
-use Rattle.nas_5gs.specs.declared.OpenAnswer.TheVariants as open'
-use Rattle.nas_5gs.specs.declared.EpsOpenAnswer.{EpsOpenAnswer}
-use Rattle.nas_5gs.specs.declared.EpsOpenAnswer.TheVariants as eps
-use Rattle.nas_5gs.specs.declared.OctetAnswer.{OctetAnswer}
-use Rattle.nas_5gs.specs.declared.OctetAnswer.TheVariants as octet
-use Rattle.nas_5gs.specs.declared.VerifyAnswer.{VerifyAnswer}
-use Rattle.nas_5gs.specs.declared.VerifyAnswer.TheVariants as verify
+use Rattle.nas_core.specs.ChangeAnswer.{ChangeAnswer}
+use Rattle.nas_core.specs.ChangeAnswer as change
+use Rattle.nas_core.specs.UseAnswer.{UseAnswer}
+use Rattle.nas_core.specs.UseAnswer as use'
+use Rattle.nas_5gs.specs.OpenAnswer.{OpenAnswer}
+use Rattle.nas_5gs.specs.OpenAnswer as open'
+use Rattle.nas_5gs.specs.EpsOpenAnswer.{EpsOpenAnswer}
+use Rattle.nas_5gs.specs.EpsOpenAnswer as eps
+use Rattle.nas_5gs.specs.OctetAnswer.{OctetAnswer}
+use Rattle.nas_5gs.specs.OctetAnswer as octet
+use Rattle.nas_5gs.specs.VerifyAnswer.{VerifyAnswer}
+use Rattle.nas_5gs.specs.VerifyAnswer as verify
 use Rattle.nas_5gs.specs.declared.Direction.TheVariants.{Uplink}
 use Rattle.nas_5gs.specs.declared.Connection.TheVariants.{ThreeGpp}
 use Rattle.nas_5gs.specs.Places.{place_of, record_at, next_at}
@@ -240,11 +240,11 @@ module _ (G : Call → Context → Outcome) (keeps : Keeps G) where
       not_five (inr x'') = elim x'' [ ]
 
 -- a candidate of the COUNT rule that is the next COUNT ends as the message does
-late_below : (size : ℕ) (r : Record) (s : ℕ) → late_of 8 size r s ≡ At r.next → ⊥
+late_below : (size : ℕ) (r : Record) (s : ℕ) → late_of 8 size r s ≡ Some r.next → ⊥
 late_below size r s e =
     let a = at_open size r (r.next - 1 - r.next) (late-found 8 size r s r.next e).0 in omega (arith, a.down)
 
-ahead-ends : (w : Bool) (r : Record) (s : ℕ) → forward_of 8 w r s ≡ At r.next → s % 256 ≡ r.next % 256
+ahead-ends : (w : Bool) (r : Record) (s : ℕ) → forward_of 8 w r s ≡ Some r.next → s % 256 ≡ r.next % 256
 ahead-ends w r s e =
     elim (forward-found 8 w r s r.next e).1 [
       | inl t ↦ sym t.ends

@@ -1,8 +1,7 @@
 -- Demand 2, of what can be stated over the definitions: "Codes, keystream, estimates and containers proved against definitions from the standards. Sealing
 -- then opening returns the inner octets." The calls' contracts are equations with the definitions of aes, algorithms, count, nas_core and nas_5gs, which are
 -- written from the standards; here is what follows for a sealer z and an opener x with the same keys and codes.
-use Rattle.std.specs.Prelude.{ℕ, ◌+◌, ◌*◌, ◌/◌, ◌%◌, ◌≤◌, ◌<◌, ◌≡◌, Bool, true, false, ◌||◌, ◌⊎◌, ◌↔◌, List, [], ◌∷◌, length, get_or, take, drop}
-use Rattle.count.specs.declared.Candidate.TheVariants.{At}
+use Rattle.std.specs.Prelude.{ℕ, ◌+◌, ◌*◌, ◌/◌, ◌%◌, ◌≤◌, ◌<◌, ◌≡◌, Bool, true, false, ◌||◌, ◌⊎◌, ◌↔◌, List, [], ◌∷◌, length, get_or, take, drop, Some}
 use Rattle.count.specs.Rule.{exhausted, forward_of, late_of}
 use Rattle.nas_core.specs.Keyed.{wraps, code_by, payload}
 use Rattle.nas_core.specs.Refusals.{limit}
@@ -60,7 +59,7 @@ pub record Accepts (z : Context) : Type 0 where
   -- "Verifying uses the forward candidate"
   pub verify-n1_to_s1 : (s c : ℕ)
       → let o = gives (verify_n1_to_s1 s) z in
-      (Succeeds o × Uses o c) ↔ ((fault_of z ≡ 0) × (forward_of 8 (wraps z.core) (record_at z container_place) s ≡ At c))
+      (Succeeds o × Uses o c) ↔ ((fault_of z ≡ 0) × (forward_of 8 (wraps z.core) (record_at z container_place) s ≡ Some c))
 
 -- What a seal writes is the message for the COUNT that it answers, the record's next one: "a message sealed for COUNT c" of demand 3. A container likewise.
 pub record Writes (z : Context) : Type 0 where
@@ -186,12 +185,12 @@ pub record Estimates (G : Call → Context → Outcome) (x : Context) : Type 0 w
   pub opens : (d : Direction) (k : Connection) (m out out2 : List ℕ) (c : ℕ)
       → let r = record_at x (place_of d k) in
       Uses (G (open5gs d k m out out2) x) c
-      → ((late_of 8 x.core.size r (get_or m 6 0) ≡ At c) ⊎ (forward_of 8 (wraps x.core) r (get_or m 6 0) ≡ At c))
+      → ((late_of 8 x.core.size r (get_or m 6 0) ≡ Some c) ⊎ (forward_of 8 (wraps x.core) r (get_or m 6 0) ≡ Some c))
       × (fits x.core c (bearer_no k) (direction_no d) 2 m ≡ true)
   pub opens-eps : (m out : List ℕ) (c : ℕ)
       → let r = record_at x eps_place in
       Uses (G (open_eps m out) x) c
-      → ((late_of 8 x.core.size r (get_or m 5 0) ≡ At c) ⊎ (forward_of 8 (wraps x.core) r (get_or m 5 0) ≡ At c))
+      → ((late_of 8 x.core.size r (get_or m 5 0) ≡ Some c) ⊎ (forward_of 8 (wraps x.core) r (get_or m 5 0) ≡ Some c))
       × (fits x.core c eps_bearer eps_direction 1 m ≡ true)
 
 pub record Demand2 : Type 0 where

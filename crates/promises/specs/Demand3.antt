@@ -15,7 +15,7 @@ use Rattle.nas_5gs.specs.declared.Context.{Context}
 use Rattle.nas_5gs.specs.declared.Direction.{Direction}
 use Rattle.nas_5gs.specs.declared.Direction.TheVariants.{Uplink}
 use Rattle.nas_5gs.specs.declared.Connection.{Connection}
-use Rattle.nas_5gs.specs.declared.ChangeAnswer.TheVariants.{Done}
+use Rattle.nas_core.specs.ChangeAnswer.{Done}
 use Rattle.nas_5gs.specs.Places.{direction_no, bearer_no, place_of, next_at}
 use Rattle.nas_5gs.specs.Leaves.{leaves}
 use Rattle.nas_5gs.specs.Changes.{new_of, restore_of, reselect_of}

@@ -9,12 +9,12 @@ use Rattle.nas_5gs.specs.declared.Direction.TheVariants.{Uplink}
 use Rattle.nas_5gs.specs.declared.Connection.{Connection}
 use Rattle.nas_5gs.specs.declared.Connection.TheVariants.{ThreeGpp}
 use Rattle.nas_5gs.specs.Places.{direction_no, bearer_no, place_of, next_at}
-use Rattle.nas_5gs.specs.declared.ChangeAnswer.{ChangeAnswer}
-use Rattle.nas_5gs.specs.declared.UseAnswer.{UseAnswer}
-use Rattle.nas_5gs.specs.declared.OpenAnswer.{OpenAnswer}
-use Rattle.nas_5gs.specs.declared.EpsOpenAnswer.{EpsOpenAnswer}
-use Rattle.nas_5gs.specs.declared.OctetAnswer.{OctetAnswer}
-use Rattle.nas_5gs.specs.declared.VerifyAnswer.{VerifyAnswer}
+use Rattle.nas_core.specs.ChangeAnswer.{ChangeAnswer}
+use Rattle.nas_core.specs.UseAnswer.{UseAnswer}
+use Rattle.nas_5gs.specs.OpenAnswer.{OpenAnswer}
+use Rattle.nas_5gs.specs.EpsOpenAnswer.{EpsOpenAnswer}
+use Rattle.nas_5gs.specs.OctetAnswer.{OctetAnswer}
+use Rattle.nas_5gs.specs.VerifyAnswer.{VerifyAnswer}
 use Rattle.nas_5gs.specs.Leaves.{Leaves, LeavesTwo, Values, change_values, use_values, open_values, eps_open_values, octet_values, verify_values}
 use Rattle.nas_5gs.specs.Envelope.{envelope}
 use Rattle.promises.specs.Calls.{Call, set_window, seal5gs, seal_opaque, seal_initial, open5gs, seal_eps, open_eps, make_n1_to_s1, verify_n1_to_s1, make_s1_to_n1, verify_s1_to_n1, reselect, Making, Outcome, outcome, first_of, second_of, gives, second, makes, context_after}

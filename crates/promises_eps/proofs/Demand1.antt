@@ -1,4 +1,5 @@
 -- Demand 1.
+use Rattle.std.specs.Prelude.{None, Ok, Err}
 use Prim.Native.Nat.{ℕ, ◌+◌, ◌-◌, ◌≤◌, ◌<◌, ◌/◌, ◌%◌}
 use mathlib.Core.Path.{◌≡◌, refl, sym, ap, ◌∙◌, subst}
 use mathlib.Core.Bool.{Bool, true, false, cond, not, ◌||◌}
@@ -8,10 +9,9 @@ use native.Mathlib.Omega.{arith}
 use lib.ListN.{length, drop, length-drop}
 use lib.Dec.{eqb, ltb}
 use borrow.Author.Tests.{eqb-true, eqb-false, lt-ltb, le-ltb, ne_eqb}
-use Rattle.count.specs.declared.Opening.{Opening}
-use Rattle.count.specs.declared.Opening.TheVariants.{Late, Forward, None, Wrong}
-use Rattle.count.specs.declared.Candidate.TheVariants.{Nothing}
-use Rattle.count.specs.Rule.{exhausted, forward_of, forward_only}
+use Rattle.count.specs.Rule.{Opening, exhausted, forward_of, forward_only}
+use Rattle.count.specs.declared.Taken.TheVariants.{Late, Forward}
+use Rattle.count.specs.declared.Missed.TheVariants.{NoCandidate, WrongCode}
 use Rattle.count.specs.Run.{In}
 use Rattle.count.proofs.Candidates.{never}
 use Rattle.count.proofs.Openings.{answers}
@@ -23,8 +23,8 @@ use Rattle.nas_core.proofs.Keys.{payload-length}
 use Rattle.nas_eps.specs.declared.Context.{Context}
 use Rattle.nas_eps.specs.declared.Direction.{Direction}
 use Rattle.nas_eps.specs.declared.Direction.TheVariants.{Downlink}
-use Rattle.nas_eps.specs.declared.UseAnswer.TheVariants as use'
-use Rattle.nas_eps.specs.declared.OpenAnswer.TheVariants as open'
+use Rattle.nas_core.specs.UseAnswer as use'
+use Rattle.nas_eps.specs.OpenAnswer as open'
 use Rattle.nas_eps.specs.Places.{uplink, downlink, place_of, record_at, next_at, fault_of, used, used_late}
 use Rattle.nas_eps.specs.Leaves.{over, use_next, refusal, use_values, open_values}
 use Rattle.nas_eps.specs.Changes.{refused_context, new_of, restore_of, reselect_of, window_of}
@@ -113,18 +113,18 @@ module _ (x : Context) where
   unfolding use_next
   sent-uses p made out u = inl refl
 
-  opened-uses : (p : ℕ) (m out : List ℕ) (L : Type 0) (o : Opening) → ((c : ℕ) → o ≡ Late c → L) → UsedAs p L (left_by x p m out o)
-  opened-uses p m out L None late u = let z : ◌≡◌ {A = ℕ} 0 1 = cc in absurd (omega arith)
-  opened-uses p m out L Wrong late u = let z : ◌≡◌ {A = ℕ} 0 1 = cc in absurd (omega arith)
-  opened-uses p m out L (Late c) late u = inr (late c refl, rw ((answering x p m).count c))
-  opened-uses p m out L (Forward c) late u = inl (rw ((answering x p m).count c))
+  opened-uses : (p : ℕ) (m out : List ℕ) (L : Type 0) (o : Opening) → ((c : ℕ) → o ≡ Ok (Late c) → L) → UsedAs p L (left_by x p m out o)
+  opened-uses p m out L (Err NoCandidate) late u = let z : ◌≡◌ {A = ℕ} 0 1 = cc in absurd (omega arith)
+  opened-uses p m out L (Err WrongCode) late u = let z : ◌≡◌ {A = ℕ} 0 1 = cc in absurd (omega arith)
+  opened-uses p m out L (Ok (Late c)) late u = inr (late c refl, rw ((answering x p m).count c))
+  opened-uses p m out L (Ok (Forward c)) late u = inl (rw ((answering x p m).count c))
 
   -- a SERVICE REQUEST is never found late
-  pub request-never-late : (p : ℕ) (m : List ℕ) (c : ℕ) → request_as x.core (record_at x p) m ≡ Late c → ⊥
+  pub request-never-late : (p : ℕ) (m : List ℕ) (c : ℕ) → request_as x.core (record_at x p) m ≡ Ok (Late c) → ⊥
   unfolding request_as forward_only
-  request-never-late p m c e = never ((answers (λ c'. short_fits x.core c' m) Nothing (forward_of 5 (wraps x.core) (record_at x p) _) (Late c)).0 e).0
+  request-never-late p m c e = never ((answers (λ c'. short_fits x.core c' m) None (forward_of 5 (wraps x.core) (record_at x p) _) (Ok (Late c))).0 e).0
 
-  late-message : (p : ℕ) (m : List ℕ) (c : ℕ) → found x p m ≡ Late c → is_request m ≡ false
+  late-message : (p : ℕ) (m : List ℕ) (c : ℕ) → found x p m ≡ Ok (Late c) → is_request m ≡ false
   late-message p m c e = go (is_request m) refl
     where
       go : (t : Bool) → is_request m ≡ t → is_request m ≡ false
@@ -166,18 +166,18 @@ module _ (x : Context) (p : ℕ) (m out : List ℕ) where
       }
 
   answered : (o : Opening) → (left_by x p m out o).values.number ≡ 0 → Answered x p m out (left_by x p m out o)
-  answered None h = absurd (omega arith)
-  answered Wrong h = absurd (omega arith)
-  answered (Late c) h = used-as (used_late x p c) c
-  answered (Forward c) h = used-as (used x p c) c
+  answered (Err NoCandidate) h = absurd (omega arith)
+  answered (Err WrongCode) h = absurd (omega arith)
+  answered (Ok (Late c)) h = used-as (used_late x p c) c
+  answered (Ok (Forward c)) h = used-as (used x p c) c
 
   -- a SERVICE REQUEST answered with the COUNT that it names
   request-as : is_request m ≡ true → (o : Opening) → let w = left_by x p m out o in
       w.values.number ≡ 0 → AnswersRequest w w.values.count (identifier_of m) out
-  request-as is None h = absurd (omega arith)
-  request-as is Wrong h = absurd (omega arith)
-  request-as is (Late c) h = rw ((answering x p m).count c) (request-answered x p m is out c (Late c) (inl refl))
-  request-as is (Forward c) h = rw ((answering x p m).count c) (request-answered x p m is out c (Forward c) (inr refl))
+  request-as is (Err NoCandidate) h = absurd (omega arith)
+  request-as is (Err WrongCode) h = absurd (omega arith)
+  request-as is (Ok (Late c)) h = rw ((answering x p m).count c) (request-answered x p m is out c (Ok (Late c)) (inl refl))
+  request-as is (Ok (Forward c)) h = rw ((answering x p m).count c) (request-answered x p m is out c (Ok (Forward c)) (inr refl))
 
 pub demand1-open : (x : Context) (d : Direction) (m out : List ℕ) (h : Succeeds (gives (open_message d m out) x)) → Demand1Open x d m out h
 demand1-open x d m out h =

@@ -1,4 +1,5 @@
 -- Demand 2: what a seal accepts and writes, the round trip, and the estimate.
+use Rattle.std.specs.Prelude.{None, Some, Ok, Err}
 use Prim.Native.Nat.{ℕ, ◌+◌, ◌%◌, ◌≤◌, ◌<◌}
 use mathlib.Core.Path.{◌≡◌, refl, sym, ap, ◌∙◌, subst}
 use mathlib.Core.Bool.{Bool, true, false, cond, ◌||◌}
@@ -10,10 +11,9 @@ use lib.Seq.{take-append_seam}
 use lib.Dec.{eqb, ltb, leb}
 use borrow.Author.Tests.{eq-eqb, ne_eqb, ltb-false, lt-ltb, le-ltb, leb-false, lt-leb}
 use Rattle.count.specs.declared.Record.{Record}
-use Rattle.count.specs.declared.Opening.{Opening}
-use Rattle.count.specs.declared.Opening.TheVariants.{Late, Forward, None, Wrong}
-use Rattle.count.specs.declared.Candidate.TheVariants.{Nothing, At}
-use Rattle.count.specs.Rule.{exhausted, distance, forward_of, late_of, opening, forward_only}
+use Rattle.count.specs.Rule.{Opening, exhausted, distance, forward_of, late_of, opening, forward_only}
+use Rattle.count.specs.declared.Taken.TheVariants.{Late, Forward}
+use Rattle.count.specs.declared.Missed.TheVariants.{NoCandidate, WrongCode}
 use Rattle.count.proofs.Candidates.{never}
 use Rattle.count.proofs.Openings.{answers}
 use Rattle.refusals.specs.Order.{◌when◌}
@@ -27,7 +27,7 @@ use Rattle.nas_core.specs.Verify.{fits, verify_of}
 use Rattle.nas_eps.specs.declared.Context.{Context}
 use Rattle.nas_eps.specs.declared.Direction.{Direction}
 use Rattle.nas_eps.specs.declared.Direction.TheVariants.{Uplink, Downlink}
-use Rattle.nas_eps.specs.declared.OpenAnswer.TheVariants as open'
+use Rattle.nas_eps.specs.OpenAnswer as open'
 use Rattle.nas_eps.specs.Places.{uplink, downlink, place_of, record_at, next_at, fault_of}
 use Rattle.nas_eps.specs.Leaves.{use_next, open_values, refusal}
 use Rattle.nas_eps.specs.Octets.{bearer, message, type_of, is_request, service_request, short_code, short_fits, request_as}
@@ -166,10 +166,10 @@ module _ (x : Context) (d : Direction) (t c : ℕ) (inner room : List ℕ) (from
   trip-succeeds u = let q = trip-left u in rw q (number (found x (place_of d) m) (subst (λ (w : Outcome). w.values.uses ≡ true) q u.0))
     where
       number : (f : Opening) → (left_by x (place_of d) m room f).values.uses ≡ true → (left_by x (place_of d) m room f).values.number ≡ 0
-      number None h = let z : ◌≡◌ {A = ℕ} 0 1 = cc in absurd (omega arith)
-      number Wrong h = let z : ◌≡◌ {A = ℕ} 0 1 = cc in absurd (omega arith)
-      number (Late n) h = rw (message-other x.core t c (place_of d) inner from to) refl
-      number (Forward n) h = rw (message-other x.core t c (place_of d) inner from to) refl
+      number (Err NoCandidate) h = let z : ◌≡◌ {A = ℕ} 0 1 = cc in absurd (omega arith)
+      number (Err WrongCode) h = let z : ◌≡◌ {A = ℕ} 0 1 = cc in absurd (omega arith)
+      number (Ok (Late n)) h = rw (message-other x.core t c (place_of d) inner from to) refl
+      number (Ok (Forward n)) h = rw (message-other x.core t c (place_of d) inner from to) refl
 
   trip-header : Uses o c → o.values.header ≡ t
   trip-header u = (demand1-open x d m room (trip-succeeds u)).header ∙ message-type x.core t c (place_of d) inner from to
@@ -243,7 +243,7 @@ octets x = record { unchanged = unchanged x.core; covers = λ c d a m. refl; cov
 
 -- a COUNT that is answered was found
 pub found-used : (x : Context) (d : Direction) (m out : List ℕ) (c : ℕ) → Uses (gives (open_message d m out) x) c
-    → (found x (place_of d) m ≡ Late c) ⊎ (found x (place_of d) m ≡ Forward c)
+    → (found x (place_of d) m ≡ Ok (Late c)) ⊎ (found x (place_of d) m ≡ Ok (Forward c))
 found-used x d m out c u =
     let p = place_of d in
     let k = open_message d m out in
@@ -255,24 +255,24 @@ module _ (x : Core) (r : Record) (d : ℕ) (m : List ℕ) (c : ℕ) where
   abbrev fit : ℕ → Bool
   fit n = fits x n bearer d 1 m
 
-  verified-is : (verify_of x r bearer d 1 m ≡ Late c) ⊎ (verify_of x r bearer d 1 m ≡ Forward c)
-      → ((late_of 8 x.size r (get_or m 5 0) ≡ At c) ⊎ (forward_of 8 (wraps x) r (get_or m 5 0) ≡ At c)) × (fit c ≡ true)
+  verified-is : (verify_of x r bearer d 1 m ≡ Ok (Late c)) ⊎ (verify_of x r bearer d 1 m ≡ Ok (Forward c))
+      → ((late_of 8 x.size r (get_or m 5 0) ≡ Some c) ⊎ (forward_of 8 (wraps x) r (get_or m 5 0) ≡ Some c)) × (fit c ≡ true)
   unfolding verify_of opening
   verified-is (inl e) =
-      let a = (answers fit (cond (wraps x) Nothing (late_of 8 x.size r (get_or m 5 0))) (forward_of 8 (wraps x) r (get_or m 5 0)) (Late c)).0 e in
+      let a = (answers fit (cond (wraps x) None (late_of 8 x.size r (get_or m 5 0))) (forward_of 8 (wraps x) r (get_or m 5 0)) (Ok (Late c))).0 e in
       (inl (late (wraps x) a.0), a.1)
     where
-      late : (t : Bool) → cond t Nothing (late_of 8 x.size r (get_or m 5 0)) ≡ At c → late_of 8 x.size r (get_or m 5 0) ≡ At c
+      late : (t : Bool) → cond t None (late_of 8 x.size r (get_or m 5 0)) ≡ Some c → late_of 8 x.size r (get_or m 5 0) ≡ Some c
       late true q = never q
       late false q = q
   verified-is (inr e) =
-      let a = (answers fit (cond (wraps x) Nothing (late_of 8 x.size r (get_or m 5 0))) (forward_of 8 (wraps x) r (get_or m 5 0)) (Forward c)).0 e in
+      let a = (answers fit (cond (wraps x) None (late_of 8 x.size r (get_or m 5 0))) (forward_of 8 (wraps x) r (get_or m 5 0)) (Ok (Forward c))).0 e in
       (inr a.1, a.2)
 
-  pub requested-is : (request_as x r m ≡ Late c) ⊎ (request_as x r m ≡ Forward c) → (forward_of 5 (wraps x) r (get_or m 1 0 % 32) ≡ At c) × (short_fits x c m ≡ true)
+  pub requested-is : (request_as x r m ≡ Ok (Late c)) ⊎ (request_as x r m ≡ Ok (Forward c)) → (forward_of 5 (wraps x) r (get_or m 1 0 % 32) ≡ Some c) × (short_fits x c m ≡ true)
   unfolding request_as forward_only
-  requested-is (inl e) = never ((answers (λ n. short_fits x n m) Nothing (forward_of 5 (wraps x) r (get_or m 1 0 % 32)) (Late c)).0 e).0
-  requested-is (inr e) = let a = (answers (λ n. short_fits x n m) Nothing (forward_of 5 (wraps x) r (get_or m 1 0 % 32)) (Forward c)).0 e in (a.1, a.2)
+  requested-is (inl e) = never ((answers (λ n. short_fits x n m) None (forward_of 5 (wraps x) r (get_or m 1 0 % 32)) (Ok (Late c))).0 e).0
+  requested-is (inr e) = let a = (answers (λ n. short_fits x n m) None (forward_of 5 (wraps x) r (get_or m 1 0 % 32)) (Ok (Forward c))).0 e in (a.1, a.2)
 
 -- 11: a SERVICE REQUEST that is not refused is uplink
 request-uplink : (x : Context) (d : Direction) (m : List ℕ) (room : ℕ) → is_request m ≡ true → open_refusal x (place_of d) m room ≡ 0 → d ≡ Uplink
@@ -290,7 +290,7 @@ estimates x =
       requests = λ d m out c is u.
           let up = request-uplink x d m (length out) is (uses-passed (open_message d m out) x u.0) in
           let r = requested-is x.core (record_at x (place_of d)) (place_of d) m c (rw is at (found-used x d m out c u)) in
-          (up, subst (λ (d : Direction). forward_of 5 (wraps x.core) (record_at x (place_of d)) (get_or m 1 0 % 32) ≡ At c) up r.0, r.1);
+          (up, subst (λ (d : Direction). forward_of 5 (wraps x.core) (record_at x (place_of d)) (get_or m 1 0 % 32) ≡ Some c) up r.0, r.1);
     }
 
 five-bits : FiveBits

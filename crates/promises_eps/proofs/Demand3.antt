@@ -19,7 +19,7 @@ use Rattle.nas_core.specs.Refusals.{unbuilt}
 use Rattle.nas_eps.specs.declared.Context.{Context}
 use Rattle.nas_eps.specs.declared.Direction.{Direction}
 use Rattle.nas_eps.specs.declared.Direction.TheVariants.{Uplink, Downlink}
-use Rattle.nas_eps.specs.declared.ChangeAnswer.TheVariants.{Refused, Done}
+use Rattle.nas_core.specs.ChangeAnswer.{Refused, Done}
 use Rattle.nas_eps.specs.Places.{uplink, place_of, two, record_at, next_at, fault_of}
 use Rattle.nas_eps.specs.Leaves.{leaves}
 use Rattle.nas_eps.specs.Changes.{context_with, refused_context, new_of, closed, kept_for, reselect_of}

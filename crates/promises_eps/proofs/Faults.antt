@@ -1,4 +1,5 @@
 -- What a context holds stays without fault, under null integrity too.
+use Rattle.std.specs.Prelude.{None}
 use Prim.Native.Nat.{ℕ, zero, suc, ◌%◌, ◌≤◌, ◌<◌}
 use mathlib.Core.Path.{◌≡◌, refl}
 use mathlib.Core.Bool.{Bool, true, false, cond, ◌||◌}
@@ -8,7 +9,6 @@ use native.Mathlib.Omega.{arith}
 use lib.ListN.{get_or}
 use lib.Dec.{ltb}
 use borrow.Author.Tests.{ltb-false, le-ltb}
-use Rattle.count.specs.declared.Candidate.TheVariants.{Nothing}
 use Rattle.count.specs.Rule.{exhausted, late_of, opening, forward_only}
 use Rattle.count.specs.Run.{stay, close, act_of}
 use Rattle.refusals.specs.Order.{◌when◌}
@@ -72,10 +72,10 @@ unfolding verify_of request_as opening forward_only
 found-bounded x p m = go (is_request m)
   where
     go : (t : Bool) → Bounded (act_of (wraps x.core) (cond t (request_as x.core (record_at x p) m) (verify_of x.core (record_at x p) bearer p 1 m)))
-    go true = tried-bounded 5 (wraps x.core) (λ c. short_fits x.core c m) Nothing (record_at x p) (get_or m 1 0 % 32)
+    go true = tried-bounded 5 (wraps x.core) (λ c. short_fits x.core c m) None (record_at x p) (get_or m 1 0 % 32)
     go false =
         tried-bounded 8 (wraps x.core) (λ c. fits x.core c bearer p 1 m)
-        (cond (wraps x.core) Nothing (late_of 8 x.core.size (record_at x p) (get_or m 5 0))) (record_at x p) (get_or m 5 0)
+        (cond (wraps x.core) None (late_of 8 x.core.size (record_at x p) (get_or m 5 0))) (record_at x p) (get_or m 5 0)
 
 closing-bounded : (t : Bool) → Bounded (cond t close stay)
 closing-bounded true = tt

@@ -1,4 +1,5 @@
 -- Isolation: what a call answers hangs on keys, codes, size, its own record and the context's faults.
+use Rattle.std.specs.Prelude.{Ok, Err}
 use Prim.Native.Nat.{ℕ, ◌<◌}
 use mathlib.Core.Path.{◌≡◌, refl, sym, ap, ◌∙◌, subst}
 use mathlib.Core.Bool.{Bool, true, false, cond}
@@ -7,15 +8,16 @@ use mathlib.Core.List.{List, [], ◌∷◌}
 use native.Mathlib.Omega.{arith}
 use lib.Dec.{eqb}
 use borrow.Author.Tests.{eqb-true, eqb-false}
-use Rattle.count.specs.declared.Opening.{Opening}
-use Rattle.count.specs.declared.Opening.TheVariants.{Late, Forward, None, Wrong}
+use Rattle.count.specs.Rule.{Opening}
+use Rattle.count.specs.declared.Taken.TheVariants.{Late, Forward}
+use Rattle.count.specs.declared.Missed.TheVariants.{NoCandidate, WrongCode}
 use Rattle.count.specs.declared.Record.{Record}
 use Rattle.count.specs.Run.{State, Act, stay, uses, resize, close, act, act_of}
 use Rattle.count.proofs.Lifting.{others}
 use Rattle.nas_core.specs.Keyed.{wraps}
 use Rattle.nas_eps.specs.declared.Context.{Context}
 use Rattle.nas_eps.specs.declared.Direction.TheVariants.{Uplink, Downlink}
-use Rattle.nas_eps.specs.declared.OpenAnswer.TheVariants as open'
+use Rattle.nas_eps.specs.OpenAnswer as open'
 use Rattle.nas_eps.specs.Places.{uplink, place_of, record_at, fault_of}
 use Rattle.nas_eps.specs.Leaves.{leaves, over, use_next, received, Values, open_values}
 use Rattle.nas_eps.specs.Octets.{message, service_request}
@@ -38,10 +40,10 @@ Quiet (resize n) = ⊥
 Quiet close = ⊥
 
 found-quiet : (w : Bool) (o : Opening) → Quiet (act_of w o)
-found-quiet w (Late c) = tt
-found-quiet w (Forward c) = tt
-found-quiet w None = tt
-found-quiet w Wrong = tt
+found-quiet w (Ok (Late c)) = tt
+found-quiet w (Ok (Forward c)) = tt
+found-quiet w (Err NoCandidate) = tt
+found-quiet w (Err WrongCode) = tt
 
 passing-quiet : (k : Call) (x : Context) → place_in k < 2 → Quiet (passing k x)
 passing-quiet (set_window n) x h = absurd (omega arith)
@@ -115,10 +117,10 @@ module _ (x : Context) (l : List Record) where
     received-same : {A : Type 0} (v : A → Values) (p : ℕ) (n' y' : ℕ → A) (plain_of_lem : ℕ → List ℕ) (out : List ℕ) (o : Opening)
         → Same (outcome v (received y p (λ n. leaves (n' n) y out) (λ c z. leaves (y' c) z (over (plain_of_lem c) out)) o))
         (outcome v (received x p (λ n. leaves (n' n) x out) (λ c z. leaves (y' c) z (over (plain_of_lem c) out)) o))
-    received-same v p n' y' plain_of_lem out None = (refl, refl)
-    received-same v p n' y' plain_of_lem out Wrong = (refl, refl)
-    received-same v p n' y' plain_of_lem out (Late c) = (refl, refl)
-    received-same v p n' y' plain_of_lem out (Forward c) = (refl, refl)
+    received-same v p n' y' plain_of_lem out (Err NoCandidate) = (refl, refl)
+    received-same v p n' y' plain_of_lem out (Err WrongCode) = (refl, refl)
+    received-same v p n' y' plain_of_lem out (Ok (Late c)) = (refl, refl)
+    received-same v p n' y' plain_of_lem out (Ok (Forward c)) = (refl, refl)
 
     same-passes : (k : Call) → place_in k < 2 → record_at y (place_in k) ≡ record_at x (place_in k) → Same (passes k y) (passes k x)
     same-passes (set_window n) on e = absurd (omega arith)

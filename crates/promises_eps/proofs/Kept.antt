@@ -19,7 +19,7 @@ use Rattle.nas_core.specs.Keyed.{code_by, payload}
 use Rattle.nas_core.specs.Refusals.{unbuilt, any_over}
 use Rattle.refusals.specs.Order.{◌when◌, first, refused_or}
 use Rattle.nas_eps.specs.declared.Context.{Context}
-use Rattle.nas_eps.specs.declared.ChangeAnswer.TheVariants as change
+use Rattle.nas_core.specs.ChangeAnswer as change
 use Rattle.nas_eps.specs.Leaves.{leaves, change_values}
 use Rattle.nas_eps.specs.Changes.{context_with, refused_context, new_of, restore_of}
 use Rattle.promises_eps.specs.Calls.{Making, create, restore, makes, Call, gives, outcome}

@@ -1,4 +1,5 @@
 -- Null integrity, over the calls.
+use Rattle.std.specs.Prelude.{None, Ok, Err}
 use Prim.Native.Nat.{ℕ, ◌+◌, ◌%◌, ◌≤◌, ◌<◌}
 use mathlib.Core.Path.{◌≡◌, refl, sym, ap, ◌∙◌}
 use mathlib.Core.Bool.{Bool, true, false, cond}
@@ -7,10 +8,9 @@ use mathlib.Core.List.{List, [], ◌∷◌}
 use native.Mathlib.Omega.{arith}
 use lib.ListN.{length, get_or, take}
 use borrow.Author.Tests.{eqb-true}
-use Rattle.count.specs.declared.Opening.{Opening}
-use Rattle.count.specs.declared.Opening.TheVariants.{Late, Forward, None, Wrong}
-use Rattle.count.specs.declared.Candidate.TheVariants.{Nothing}
-use Rattle.count.specs.Rule.{exhausted, distance, forward_of, forward_only, use_round}
+use Rattle.count.specs.Rule.{Opening, exhausted, distance, forward_of, forward_only, use_round}
+use Rattle.count.specs.declared.Taken.TheVariants.{Late, Forward}
+use Rattle.count.specs.declared.Missed.TheVariants.{NoCandidate, WrongCode}
 use Rattle.count.specs.Run.{State, Act, stay, uses, forward, late, round, resize, close, act, act_of, used}
 use Rattle.count.proofs.Null.{null}
 use Rattle.count.proofs.Candidates.{never}
@@ -21,7 +21,7 @@ use Rattle.nas_core.specs.Verify.{fits, verify_of}
 use Rattle.nas_eps.specs.declared.Context.{Context}
 use Rattle.nas_eps.specs.declared.Direction.{Direction}
 use Rattle.nas_eps.specs.declared.Direction.TheVariants.{Uplink}
-use Rattle.nas_eps.specs.declared.OpenAnswer.TheVariants as open'
+use Rattle.nas_eps.specs.OpenAnswer as open'
 use Rattle.nas_eps.specs.Places.{uplink, place_of, record_at, next_at}
 use Rattle.nas_eps.specs.Leaves.{open_values}
 use Rattle.nas_eps.specs.Octets.{bearer, is_request, short_code, short_fits, request_as}
@@ -45,10 +45,10 @@ Round (resize n) = ⊥
 Round close = ⊥
 
 round-only : (k : ℕ) (fit : ℕ → Bool) (s : State) (n : ℕ) (o : Opening) → forward_only k true fit s.at n ≡ o → Round (act_of true o)
-round-only k fit s n (Late c) e = (null k fit s n).never-late c e
-round-only k fit s n (Forward c) e = tt
-round-only k fit s n None e = tt
-round-only k fit s n Wrong e = tt
+round-only k fit s n (Ok (Late c)) e = (null k fit s n).never-late c e
+round-only k fit s n (Ok (Forward c)) e = tt
+round-only k fit s n (Err NoCandidate) e = tt
+round-only k fit s n (Err WrongCode) e = tt
 
 round-used : (a : Act) (s : State) (c : ℕ) → Round a → used a ≡ c ∷ [] → (act a s).at ≡ record { next = (c + 1) % exhausted; bits = s.at.bits }
 unfolding use_round
@@ -65,7 +65,7 @@ round-found : (k : ℕ) (fit : ℕ → Bool) (s : State) (o : ℕ) → ((c : ℕ
 unfolding forward_only
 round-found k fit s o all h =
     let c = (s.at.next + distance k s.at.next o) % exhausted in
-    (answers fit Nothing (forward_of k true s.at o) (Forward c)).1 ((λ c e. never e), (null k fit s o).goes-round h, all c)
+    (answers fit None (forward_of k true s.at o) (Ok (Forward c))).1 ((λ c e. never e), (null k fit s o).goes-round h, all c)
 
 module _ (x : Context) (w : wraps x.core ≡ true) where
   verify-only : (p : ℕ) (m : List ℕ)
@@ -120,15 +120,15 @@ module _ (x : Context) (w : wraps x.core ≡ true) where
   short-zero c m = rw (code-zero c 0 0 (take 2 m))
 
   -- an exhausted record
-  found_none : (p : ℕ) (m : List ℕ) → exhausted ≤ next_at x p → found x p m ≡ None
+  found_none : (p : ℕ) (m : List ℕ) → exhausted ≤ next_at x p → found x p m ≡ Err NoCandidate
   found_none p m h = go (is_request m)
     where
-      go : (t : Bool) → cond t (request_as x.core (record_at x p) m) (verify_of x.core (record_at x p) bearer p 1 m) ≡ None
+      go : (t : Bool) → cond t (request_as x.core (record_at x p) m) (verify_of x.core (record_at x p) bearer p 1 m) ≡ Err NoCandidate
       go true = request-only p m ∙ (null 5 (λ c. short_fits x.core c m) (record_of p x) (get_or m 1 0 % 32)).stays-exhausted h
       go false = verify-only p m ∙ (null 8 (λ c. fits x.core c bearer p 1 m) (record_of p x) (get_or m 5 0)).stays-exhausted h
 
   -- a COUNT that is found is answered
-  answers-found : (d : Direction) (m out : List ℕ) (c : ℕ) → open_refusal x (place_of d) m (length out) ≡ 0 → found x (place_of d) m ≡ Forward c
+  answers-found : (d : Direction) (m out : List ℕ) (c : ℕ) → open_refusal x (place_of d) m (length out) ≡ 0 → found x (place_of d) m ≡ Ok (Forward c)
       → Uses (gives (open_message d m out) x) c
   answers-found d m out c e f =
       let p = place_of d in

@@ -10,9 +10,9 @@ use Rattle.aes.specs.Keys.{key_of}
 use Rattle.refusals.specs.Order.{refused_or}
 use Rattle.nas_core.specs.Keyed.{core_with}
 use Rattle.nas_eps.specs.declared.Context.{Context}
-use Rattle.nas_eps.specs.declared.ChangeAnswer.TheVariants as change
-use Rattle.nas_eps.specs.declared.UseAnswer.TheVariants as use'
-use Rattle.nas_eps.specs.declared.OpenAnswer.TheVariants as open'
+use Rattle.nas_core.specs.ChangeAnswer as change
+use Rattle.nas_core.specs.UseAnswer as use'
+use Rattle.nas_eps.specs.OpenAnswer as open'
 use Rattle.nas_eps.specs.Places.{uplink, place_of}
 use Rattle.nas_eps.specs.Leaves.{leaves, use_next, success, change_values, use_values, open_values}
 use Rattle.nas_eps.specs.Changes.{kept_for, reselect_of, resized, window_of}

@@ -10,8 +10,7 @@ use lib.Dec.{eqb, ltb}
 use borrow.Author.Tests.{eqb-true}
 use Rattle.aes.specs.Keys.{key_of}
 use Rattle.count.specs.declared.Record.{Record}
-use Rattle.count.specs.declared.Opening.{Opening}
-use Rattle.count.specs.Rule.{resize_of, close_of, use_late, distance_of}
+use Rattle.count.specs.Rule.{Opening, resize_of, close_of, use_late, distance_of}
 use Rattle.count.specs.Run.{Act, stay, resize, close, act, act_of, used}
 use Rattle.count.specs.Machine.{records_after}
 use Rattle.refusals.specs.Order.{◌when◌, first, refused_or}
@@ -21,10 +20,10 @@ use Rattle.nas_core.specs.Refusals.{unbuilt}
 use Rattle.nas_core.specs.Keyed.{wraps, payload, away_from_null, core_with}
 use Rattle.nas_core.specs.Verify.{verify_of, advanced}
 use Rattle.nas_eps.specs.declared.Context.{Context}
-use Rattle.nas_eps.specs.declared.ChangeAnswer.TheVariants as change
-use Rattle.nas_eps.specs.declared.UseAnswer.TheVariants as use'
-use Rattle.nas_eps.specs.declared.OpenAnswer.{OpenAnswer}
-use Rattle.nas_eps.specs.declared.OpenAnswer.TheVariants as open'
+use Rattle.nas_core.specs.ChangeAnswer as change
+use Rattle.nas_core.specs.UseAnswer as use'
+use Rattle.nas_eps.specs.OpenAnswer.{OpenAnswer}
+use Rattle.nas_eps.specs.OpenAnswer as open'
 use Rattle.nas_eps.specs.Places.{uplink, place_of, two, record_at, fault_of, used as used_ahead, used_late}
 use Rattle.nas_eps.specs.Leaves.{Leaves, leaves, over, use_next, received, refusal, change_values, use_values, open_values}
 use Rattle.nas_eps.specs.Changes.{closed, kept_for, reselect_of, window_of, resized}

@@ -1,4 +1,5 @@
 -- The distance that an open tells.
+use Rattle.std.specs.Prelude.{None, Some, Ok, Err}
 use Prim.Native.Nat.{ℕ, ◌+◌, ◌-◌, ◌%◌, ◌≤◌, ◌<◌}
 use mathlib.Core.Path.{◌≡◌, refl, sym, ap, ◌∙◌, subst}
 use mathlib.Core.Bool.{Bool, true, false, cond}
@@ -9,10 +10,9 @@ use lib.ListN.{get_or}
 use lib.Dec.{eqb}
 use borrow.Author.Tests.{eqb-true, eqb-false}
 use Rattle.count.specs.declared.Record.{Record}
-use Rattle.count.specs.declared.Opening.{Opening}
-use Rattle.count.specs.declared.Opening.TheVariants.{Late, Forward, None, Wrong}
-use Rattle.count.specs.declared.Candidate.TheVariants.{Nothing, At}
-use Rattle.count.specs.Rule.{exhausted, distance_of, forward_of, late_of, opening, forward_only}
+use Rattle.count.specs.Rule.{Opening, exhausted, distance_of, forward_of, late_of, opening, forward_only}
+use Rattle.count.specs.declared.Taken.TheVariants.{Late, Forward}
+use Rattle.count.specs.declared.Missed.TheVariants.{NoCandidate, WrongCode}
 use Rattle.count.proofs.Candidates.{never}
 use Rattle.count.proofs.Distance.{distance-lt}
 use Rattle.count.proofs.Openings.{answers}
@@ -41,23 +41,23 @@ module _ (x : Core) (r : Record) (p : ℕ) (m : List ℕ) (c : ℕ) where
   abbrev looked : Bool → Opening
   looked t = cond t (request_as x r m) (verify_of x r bearer p 1 m)
 
-  forward-far : (t : Bool) → looked t ≡ Forward c → (r.next + distance_of r c) % exhausted ≡ c
+  forward-far : (t : Bool) → looked t ≡ Ok (Forward c) → (r.next + distance_of r c) % exhausted ≡ c
   unfolding verify_of request_as opening forward_only
   forward-far true e =
       let s = get_or m 1 0 % 32 in
-      ((distances 5 r s).forward (wraps x) c (omega arith) ((answers (λ n. short_fits x n m) Nothing (forward_of 5 (wraps x) r s) (Forward c)).0 e).1).1
+      ((distances 5 r s).forward (wraps x) c (omega arith) ((answers (λ n. short_fits x n m) None (forward_of 5 (wraps x) r s) (Ok (Forward c))).0 e).1).1
   forward-far false e =
       let s = get_or m 5 0 in
       ((distances 8 r s).forward (wraps x) c (omega arith)
-      ((answers (λ n. fits x n bearer p 1 m) (cond (wraps x) Nothing (late_of 8 x.size r s)) (forward_of 8 (wraps x) r s) (Forward c)).0 e).1).1
+      ((answers (λ n. fits x n bearer p 1 m) (cond (wraps x) None (late_of 8 x.size r s)) (forward_of 8 (wraps x) r s) (Ok (Forward c))).0 e).1).1
 
-  late-far : x.size ≤ 64 → verify_of x r bearer p 1 m ≡ Late c → c + distance_of r c ≡ r.next - 1
+  late-far : x.size ≤ 64 → verify_of x r bearer p 1 m ≡ Ok (Late c) → c + distance_of r c ≡ r.next - 1
   unfolding verify_of opening
   late-far small e =
       let s = get_or m 5 0 in
-      go (wraps x) ((answers (λ n. fits x n bearer p 1 m) (cond (wraps x) Nothing (late_of 8 x.size r s)) (forward_of 8 (wraps x) r s) (Late c)).0 e).0
+      go (wraps x) ((answers (λ n. fits x n bearer p 1 m) (cond (wraps x) None (late_of 8 x.size r s)) (forward_of 8 (wraps x) r s) (Ok (Late c))).0 e).0
     where
-      go : (t : Bool) → cond t Nothing (late_of 8 x.size r (get_or m 5 0)) ≡ At c → c + distance_of r c ≡ r.next - 1
+      go : (t : Bool) → cond t None (late_of 8 x.size r (get_or m 5 0)) ≡ Some c → c + distance_of r c ≡ r.next - 1
       go true q = never q
       go false q = (distances 8 r (get_or m 5 0)).late x.size c small q
 
@@ -67,32 +67,32 @@ module _ (x : Context) (p : ℕ) (m out : List ℕ) where
   far-as c false = refl
 
   fixed : (o : Opening) → let w = (left_by x p m out o).values in w.uses ≡ true → w.distance ≡ distance_of (record_at x p) w.count
-  fixed None u = let z : ◌≡◌ {A = ℕ} 0 1 = cc in absurd (omega arith)
-  fixed Wrong u = let z : ◌≡◌ {A = ℕ} 0 1 = cc in absurd (omega arith)
-  fixed (Late c) u = far-as c (is_request m) ∙ ap (distance_of (record_at x p)) (sym ((answering x p m).count c))
-  fixed (Forward c) u = far-as c (is_request m) ∙ ap (distance_of (record_at x p)) (sym ((answering x p m).count c))
+  fixed (Err NoCandidate) u = let z : ◌≡◌ {A = ℕ} 0 1 = cc in absurd (omega arith)
+  fixed (Err WrongCode) u = let z : ◌≡◌ {A = ℕ} 0 1 = cc in absurd (omega arith)
+  fixed (Ok (Late c)) u = far-as c (is_request m) ∙ ap (distance_of (record_at x p)) (sym ((answering x p m).count c))
+  fixed (Ok (Forward c)) u = far-as c (is_request m) ∙ ap (distance_of (record_at x p)) (sym ((answering x p m).count c))
 
-  counted : (L : Type 0) (o : Opening) → ((c : ℕ) → o ≡ Forward c → (next_at x p + distance_of (record_at x p) c) % exhausted ≡ c)
-      → ((c : ℕ) → o ≡ Late c → L × (c + distance_of (record_at x p) c ≡ next_at x p - 1))
+  counted : (L : Type 0) (o : Opening) → ((c : ℕ) → o ≡ Ok (Forward c) → (next_at x p + distance_of (record_at x p) c) % exhausted ≡ c)
+      → ((c : ℕ) → o ≡ Ok (Late c) → L × (c + distance_of (record_at x p) c ≡ next_at x p - 1))
       → (left_by x p m out o).values.uses ≡ true → Counted L x p (left_by x p m out o)
-  counted L None a l u = let z : ◌≡◌ {A = ℕ} 0 1 = cc in absurd (omega arith)
-  counted L Wrong a l u = let z : ◌≡◌ {A = ℕ} 0 1 = cc in absurd (omega arith)
-  counted L (Late c) a l u =
+  counted L (Err NoCandidate) a l u = let z : ◌≡◌ {A = ℕ} 0 1 = cc in absurd (omega arith)
+  counted L (Err WrongCode) a l u = let z : ◌≡◌ {A = ℕ} 0 1 = cc in absurd (omega arith)
+  counted L (Ok (Late c)) a l u =
       let q = l c refl in
       let n = (answering x p m).count c in
       let f = far-as c (is_request m) in
       inr (q.0, rw n, rw (f, n) q.1)
-  counted L (Forward c) a l u =
+  counted L (Ok (Forward c)) a l u =
       let n = (answering x p m).count c in
       let f = far-as c (is_request m) in
       inl (rw n, rw (f, n) (a c refl))
 
 module _ (x : Context) where
-  late-there : x.core.size ≤ 64 → (p : ℕ) (m : List ℕ) (c : ℕ) → found x p m ≡ Late c
+  late-there : x.core.size ≤ 64 → (p : ℕ) (m : List ℕ) (c : ℕ) → found x p m ≡ Ok (Late c)
       → (is_request m ≡ false) × (c + distance_of (record_at x p) c ≡ next_at x p - 1)
   late-there small p m c e = go (is_request m) refl e
     where
-      go : (t : Bool) → is_request m ≡ t → looked x.core (record_at x p) p m c t ≡ Late c
+      go : (t : Bool) → is_request m ≡ t → looked x.core (record_at x p) p m c t ≡ Ok (Late c)
           → (is_request m ≡ false) × (c + distance_of (record_at x p) c ≡ next_at x p - 1)
       go true q f = absurd (request-never-late x p m c f)
       go false q f = (q, late-far x.core (record_at x p) p m c small f)

@@ -7,7 +7,7 @@ use mathlib.Core.List.{List, []}
 use native.Mathlib.Omega.{arith}
 use lib.ListN.{length, get_or, drop}
 use borrow.Author.Tests.{eq-eqb, ne_eqb, le-ltb}
-use Rattle.count.specs.declared.Opening.{Opening}
+use Rattle.count.specs.Rule.{Opening}
 use Rattle.count.specs.Facts.{Takes}
 use Rattle.nas_core.specs.declared.Core.{Core}
 use Rattle.nas_core.specs.Types.{wrong_type, ciphers}
@@ -15,7 +15,7 @@ use Rattle.nas_core.specs.Keyed.{wraps, code_by, payload}
 use Rattle.nas_core.specs.Refusals.{limit}
 use Rattle.nas_core.proofs.Keys.{payload_twice}
 use Rattle.nas_eps.specs.declared.Context.{Context}
-use Rattle.nas_eps.specs.declared.OpenAnswer.TheVariants as open'
+use Rattle.nas_eps.specs.OpenAnswer as open'
 use Rattle.nas_eps.specs.Places.{fault_of}
 use Rattle.nas_eps.specs.Leaves.{open_values}
 use Rattle.nas_eps.specs.Octets.{message, type_of, is_request, request_head, short_code, service_request, identifier_of, short_fits}

@@ -1,7 +1,6 @@
 -- Demand 2 of the EPS context, of what can be stated over the definitions: what follows for a sealer z and an opener x with the same keys and codes. The calls'
 -- contracts are equations with the definitions of aes, snow3g, zuc, algorithms, count, nas_core and nas_eps, which are written from the standards.
-use Rattle.std.specs.Prelude.{ℕ, ◌+◌, ◌%◌, ◌≤◌, ◌<◌, ◌≡◌, Bool, true, false, ◌||◌, ◌⊎◌, ◌↔◌, List, [], ◌∷◌, length, get_or, take, drop}
-use Rattle.count.specs.declared.Candidate.TheVariants.{Nothing, At}
+use Rattle.std.specs.Prelude.{ℕ, ◌+◌, ◌%◌, ◌≤◌, ◌<◌, ◌≡◌, Bool, true, false, ◌||◌, ◌⊎◌, ◌↔◌, List, [], ◌∷◌, length, get_or, take, drop, None, Some}
 use Rattle.count.specs.Rule.{exhausted, forward_of, late_of}
 use Rattle.count.specs.Table.{next}
 use Rattle.nas_core.specs.Keyed.{wraps, code_by, payload}
@@ -71,21 +70,21 @@ pub record Estimates (G : Call → Context → Outcome) (x : Context) : Type 0 w
   pub opens : (d : Direction) (m out : List ℕ) (c : ℕ)
       → let r = record_at x (place_of d) in
       is_request m ≡ false → Uses (G (open_message d m out) x) c
-      → ((late_of 8 x.core.size r (get_or m 5 0) ≡ At c) ⊎ (forward_of 8 (wraps x.core) r (get_or m 5 0) ≡ At c))
+      → ((late_of 8 x.core.size r (get_or m 5 0) ≡ Some c) ⊎ (forward_of 8 (wraps x.core) r (get_or m 5 0) ≡ Some c))
       × (fits x.core c bearer (place_of d) 1 m ≡ true)
   pub requests : (d : Direction) (m out : List ℕ) (c : ℕ)
       → is_request m ≡ true → Uses (G (open_message d m out) x) c
-      → (d ≡ Uplink) × (forward_of 5 (wraps x.core) (record_at x uplink) (get_or m 1 0 % 32) ≡ At c) × (short_fits x.core c m ≡ true)
+      → (d ≡ Uplink) × (forward_of 5 (wraps x.core) (record_at x uplink) (get_or m 1 0 % 32) ≡ Some c) × (short_fits x.core c m ≡ true)
 
 -- "Estimates to run": next COUNT and five bits
 pub record FiveBits : Type 0 where
-  pub P1 : forward_of 5 false (next 0) 31 ≡ At 31
-  pub P2 : forward_of 5 false (next 6) 3 ≡ At 35
-  pub P3 : forward_of 5 false (next 300) 11 ≡ At 331
-  pub P4 : forward_of 5 false (next 16777215) 31 ≡ At 16777215
-  pub P5 : forward_of 5 false (next 16777215) 30 ≡ Nothing
+  pub P1 : forward_of 5 false (next 0) 31 ≡ Some 31
+  pub P2 : forward_of 5 false (next 6) 3 ≡ Some 35
+  pub P3 : forward_of 5 false (next 300) 11 ≡ Some 331
+  pub P4 : forward_of 5 false (next 16777215) 31 ≡ Some 16777215
+  pub P5 : forward_of 5 false (next 16777215) 30 ≡ None
   -- null integrity: "Next 16,777,215 and five bits 0: COUNT 0"
-  pub round : forward_of 5 true (next 16777215) 0 ≡ At 0
+  pub round : forward_of 5 true (next 16777215) 0 ≡ Some 0
 
 pub record Demand2 : Type 0 where
   pub accepts : (z : Context) → Accepts z

@@ -3,9 +3,9 @@ use Rattle.std.specs.Prelude.{ℕ, ◌≤◌, ◌<◌, ◌≡◌, true, List}
 use Rattle.count.specs.Rule.{exhausted}
 use Rattle.nas_eps.specs.declared.Context.{Context}
 use Rattle.nas_eps.specs.declared.Direction.TheVariants.{Uplink}
-use Rattle.nas_eps.specs.declared.ChangeAnswer.{ChangeAnswer}
-use Rattle.nas_eps.specs.declared.UseAnswer.{UseAnswer}
-use Rattle.nas_eps.specs.declared.OpenAnswer.{OpenAnswer}
+use Rattle.nas_core.specs.ChangeAnswer.{ChangeAnswer}
+use Rattle.nas_core.specs.UseAnswer.{UseAnswer}
+use Rattle.nas_eps.specs.OpenAnswer.{OpenAnswer}
 use Rattle.nas_eps.specs.Places.{uplink}
 use Rattle.nas_eps.specs.Leaves.{Leaves, Values, change_values, use_values, open_values}
 use Rattle.nas_eps.specs.Changes.{new_of, restore_of, reselect_of, window_of}

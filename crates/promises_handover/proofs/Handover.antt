@@ -1,4 +1,5 @@
 -- An open across connections is the open call of the connection that it answers; so what holds of the calls holds of any mixture.
+use Rattle.std.specs.Prelude.{Option, None, Some, Ok, Err}
 use Prim.Native.Nat.{ℕ, ◌≤◌, ◌<◌}
 use mathlib.Core.Path.{◌≡◌, refl, sym, ap, subst, ◌∙◌}
 use mathlib.Core.Bool.{Bool, true, false, cond, not, ◌&&◌}
@@ -7,11 +8,9 @@ use mathlib.Core.List.{List, [], ◌∷◌, ◌++◌}
 use native.Mathlib.Omega.{arith}
 use lib.ListN.{length, get_or}
 use lib.Dec.{eqb}
-use Rattle.count.specs.declared.Candidate.{Candidate}
-use Rattle.count.specs.declared.Candidate.TheVariants.{Nothing, At}
-use Rattle.count.specs.declared.Opening.{Opening}
-use Rattle.count.specs.declared.Opening.TheVariants.{Late, Forward, None, Wrong}
-use Rattle.count.specs.Rule.{exhausted, late_of, forward_of, try_forward, try, opening, distance_of}
+use Rattle.count.specs.Rule.{Opening, exhausted, late_of, forward_of, try_forward, try, opening, distance_of}
+use Rattle.count.specs.declared.Taken.TheVariants.{Late, Forward}
+use Rattle.count.specs.declared.Missed.TheVariants.{NoCandidate, WrongCode}
 use Rattle.count.specs.Run.{NoneTwice}
 use Rattle.nas_core.specs.declared.Core.{Core}
 use Rattle.nas_core.specs.Keyed.{wraps}
@@ -22,8 +21,7 @@ use Rattle.nas_5gs.specs.declared.Direction.{Direction}
 use Rattle.nas_5gs.specs.declared.Direction.TheVariants.{Uplink, Downlink}
 use Rattle.nas_5gs.specs.declared.Connection.{Connection}
 use Rattle.nas_5gs.specs.declared.Connection.TheVariants.{ThreeGpp, Non3Gpp}
-use Rattle.nas_5gs.specs.declared.OpenAnswer.{OpenAnswer}
-use Rattle.nas_5gs.specs.declared.OpenAnswer.TheVariants.{Refused, Accepted, Content}
+use Rattle.nas_5gs.specs.OpenAnswer.{OpenAnswer, Refused, Accepted, Content}
 use Rattle.nas_5gs.specs.Places.{direction_no, bearer_no, place_of, record_at}
 use Rattle.nas_5gs.specs.Leaves.{LeavesTwo, leaves_two, over, received, open_values}
 use Rattle.nas_5gs.specs.Envelope.{envelope}
@@ -167,53 +165,53 @@ counts x (s ∷ ss) p =
 
 -- what the opening of a message finds, and its candidates
 abbrev Misses : Opening → Type 0
-Misses o = (o ≡ None) ⊎ (o ≡ Wrong)
+Misses o = (o ≡ Err NoCandidate) ⊎ (o ≡ Err WrongCode)
 
 module _ (fit : ℕ → Bool) where
-  abbrev FitsNeither : Candidate → Candidate → Type 0
-  FitsNeither late ahead = (c : ℕ) → (late ≡ At c) ⊎ (ahead ≡ At c) → fit c ≡ true → ⊥
+  abbrev FitsNeither : Option ℕ → Option ℕ → Type 0
+  FitsNeither late ahead = (c : ℕ) → (late ≡ Some c) ⊎ (ahead ≡ Some c) → fit c ≡ true → ⊥
 
-  ahead-misses : (late ahead : Candidate) → FitsNeither late ahead → Misses (try_forward fit ahead)
-  ahead-misses late Nothing h = inl refl
-  ahead-misses late (At c) h = go (fit c) refl
+  ahead-misses : (late ahead : Option ℕ) → FitsNeither late ahead → Misses (try_forward fit ahead)
+  ahead-misses late None h = inl refl
+  ahead-misses late (Some c) h = go (fit c) refl
     where
-      go : (b : Bool) → fit c ≡ b → Misses (cond b (Forward c) Wrong)
+      go : (b : Bool) → fit c ≡ b → Misses (cond b (Ok (Forward c)) (Err WrongCode))
       go true e = absurd (h c (inr refl) e)
       go false e = inr refl
 
-  fits-neither : (late ahead : Candidate) → FitsNeither late ahead → Misses (try fit late ahead)
-  fits-neither Nothing ahead h = ahead-misses Nothing ahead h
-  fits-neither (At c) ahead h = go (fit c) refl
+  fits-neither : (late ahead : Option ℕ) → FitsNeither late ahead → Misses (try fit late ahead)
+  fits-neither None ahead h = ahead-misses None ahead h
+  fits-neither (Some c) ahead h = go (fit c) refl
     where
-      go : (b : Bool) → fit c ≡ b → Misses (cond b (Late c) (try_forward fit ahead))
+      go : (b : Bool) → fit c ≡ b → Misses (cond b (Ok (Late c)) (try_forward fit ahead))
       go true e = absurd (h c (inl refl) e)
-      go false e = ahead-misses (At c) ahead h
+      go false e = ahead-misses (Some c) ahead h
 
-  not_late : {P : Type 0} (c : ℕ) → Misses (Late c) → P
+  not_late : {P : Type 0} (c : ℕ) → Misses (Ok (Late c)) → P
   not_late c (inl e) = absurd (let z : ◌≡◌ {A = ℕ} 0 1 = cc in omega arith)
   not_late c (inr e) = absurd (let z : ◌≡◌ {A = ℕ} 0 1 = cc in omega arith)
 
-  not-forward : {P : Type 0} (c : ℕ) → Misses (Forward c) → P
+  not-forward : {P : Type 0} (c : ℕ) → Misses (Ok (Forward c)) → P
   not-forward c (inl e) = absurd (let z : ◌≡◌ {A = ℕ} 0 1 = cc in omega arith)
   not-forward c (inr e) = absurd (let z : ◌≡◌ {A = ℕ} 0 1 = cc in omega arith)
 
-  ahead-neither : (ahead : Candidate) → Misses (try_forward fit ahead) → (c : ℕ) → ahead ≡ At c → fit c ≡ true → ⊥
+  ahead-neither : (ahead : Option ℕ) → Misses (try_forward fit ahead) → (c : ℕ) → ahead ≡ Some c → fit c ≡ true → ⊥
   ahead-neither ahead q c e f = not-forward c (simp f at (rw e at q))
 
-  misses : (late ahead : Candidate) → Misses (try fit late ahead) → FitsNeither late ahead
+  misses : (late ahead : Option ℕ) → Misses (try fit late ahead) → FitsNeither late ahead
   misses late ahead q c (inl e) f = not_late c (simp f at (rw e at q))
-  misses Nothing ahead q c (inr e) f = ahead-neither ahead q c e f
-  misses (At b) ahead q c (inr e) f = go (fit b) q
+  misses None ahead q c (inr e) f = ahead-neither ahead q c e f
+  misses (Some b) ahead q c (inr e) f = go (fit b) q
     where
-      go : (t : Bool) → Misses (cond t (Late b) (try_forward fit ahead)) → ⊥
+      go : (t : Bool) → Misses (cond t (Ok (Late b)) (try_forward fit ahead)) → ⊥
       go true w = not_late b w
       go false w = ahead-neither ahead w c e f
 
-to-misses : (fit : ℕ → Bool) (w : Bool) → w ≡ false → (late ahead : Candidate) → FitsNeither fit late ahead → Misses (try fit (cond w Nothing late) ahead)
+to-misses : (fit : ℕ → Bool) (w : Bool) → w ≡ false → (late ahead : Option ℕ) → FitsNeither fit late ahead → Misses (try fit (cond w None late) ahead)
 to-misses fit true e late ahead h = clash (sym e)
 to-misses fit false e late ahead h = fits-neither fit late ahead h
 
-of-misses : (fit : ℕ → Bool) (w : Bool) → w ≡ false → (late ahead : Candidate) → Misses (try fit (cond w Nothing late) ahead) → FitsNeither fit late ahead
+of-misses : (fit : ℕ → Bool) (w : Bool) → w ≡ false → (late ahead : Option ℕ) → Misses (try fit (cond w None late) ahead) → FitsNeither fit late ahead
 of-misses fit true e late ahead q = clash (sym e)
 of-misses fit false e late ahead q = misses fit late ahead q
 
@@ -248,10 +246,10 @@ module _ (x : Context) (d : Direction) (m out out2 : List ℕ) where
       o
 
   missed-only : (p b : ℕ) (o : Opening) → is_missed (refusal_of (by-opening p b o)) ≡ true → Misses o
-  missed-only p b None e = inl refl
-  missed-only p b Wrong e = inr refl
-  missed-only p b (Late c) e = clash (sym (hands (type_of m) (direction_no d) _ _ c _ _) ∙ e)
-  missed-only p b (Forward c) e = clash (sym (hands (type_of m) (direction_no d) _ _ c _ _) ∙ e)
+  missed-only p b (Err NoCandidate) e = inl refl
+  missed-only p b (Err WrongCode) e = inr refl
+  missed-only p b (Ok (Late c)) e = clash (sym (hands (type_of m) (direction_no d) _ _ c _ _) ∙ e)
+  missed-only p b (Ok (Forward c)) e = clash (sym (hands (type_of m) (direction_no d) _ _ c _ _) ∙ e)
 
   missed-then : (p b : ℕ) (o : Opening) → Misses o → is_missed (refusal_of (by-opening p b o)) ≡ true
   unfolding is_missed

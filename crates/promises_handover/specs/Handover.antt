@@ -1,9 +1,8 @@
 -- What holds of `open_across` (crate handover) among all other calls of the 5GS context. A message that was sealed on one connection may arrive on the other, as
 -- after a handover between accesses; it is taken on the connection that sealed it, when demand 3 says so of that one, but for the exception that is named here.
-use Rattle.std.specs.Prelude.{ℕ, ◌≤◌, ◌<◌, ◌≡◌, true, cond, ◌⊎◌, ◌↔◌, List, [], ◌∷◌, ◌++◌, length, get_or, eqb}
+use Rattle.std.specs.Prelude.{ℕ, ◌≤◌, ◌<◌, ◌≡◌, true, cond, ◌⊎◌, ◌↔◌, List, [], ◌∷◌, ◌++◌, length, get_or, eqb, Some}
 use Rattle.count.specs.Rule.{exhausted, late_of, forward_of}
 use Rattle.count.specs.Run.{NoneTwice}
-use Rattle.count.specs.declared.Candidate.TheVariants.{At}
 use Rattle.nas_core.specs.declared.Core.{Core}
 use Rattle.nas_core.specs.Keyed.{wraps}
 use Rattle.nas_core.specs.Refusals.{limit}
@@ -72,7 +71,7 @@ pub record AsOpen (x : Context) (d : Direction) (m out out2 : List ℕ) (L : Lea
 -- a candidate of the record at p for last octet s: the late one, which is tried first, or the forward one
 abbrev pub Tried : Context → ℕ → ℕ → ℕ → Type 0
 Tried x p s c =
-    (late_of 8 x.core.size (record_at x p) s ≡ At c) ⊎ (forward_of 8 (wraps x.core) (record_at x p) s ≡ At c)
+    (late_of 8 x.core.size (record_at x p) s ≡ Some c) ⊎ (forward_of 8 (wraps x.core) (record_at x p) s ≡ Some c)
 
 -- the message's code fits no candidate of the connection k
 abbrev pub FitsNone : Context → Direction → Connection → List ℕ → Type 0

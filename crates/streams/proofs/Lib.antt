@@ -1,3 +1,5 @@
 pub mod Under
 pub mod Words
+pub mod Bytes
 pub mod Ciphers
+pub mod Laws

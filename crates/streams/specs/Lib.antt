@@ -1,3 +1,4 @@
+pub mod Words
 pub mod Field
 pub mod Stream
 pub mod Covers

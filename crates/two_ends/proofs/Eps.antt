@@ -12,7 +12,7 @@ use Rattle.count.specs.Machine.{seen}
 use Rattle.nas_core.specs.Keyed.{wraps}
 use Rattle.nas_eps.specs.declared.Context.{Context}
 use Rattle.nas_eps.specs.declared.Direction.{Direction}
-use Rattle.nas_eps.specs.declared.OpenAnswer.TheVariants as open'
+use Rattle.nas_eps.specs.OpenAnswer as open'
 use Rattle.nas_eps.specs.Places.{place_of, next_at}
 use Rattle.nas_eps.specs.Leaves.{use_next, open_values}
 use Rattle.nas_eps.specs.Open.{open_refusal}

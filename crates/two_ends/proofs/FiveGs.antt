@@ -6,8 +6,7 @@ use mathlib.Core.Logic.{◌⊎◌, inl, inr, ⊎_elim, ◌↔◌}
 use mathlib.Core.List.{List}
 use native.Mathlib.Omega.{arith}
 use lib.ListN.{length}
-use Rattle.count.specs.declared.Opening.{Opening}
-use Rattle.count.specs.Rule.{exhausted, opening, resize_of}
+use Rattle.count.specs.Rule.{Opening, exhausted, opening, resize_of}
 use Rattle.count.specs.Run.{State, Act, uses, resize, forward, act, act_of, used}
 use Rattle.count.specs.Machine.{seen}
 use Rattle.count.specs.Facts.{Takes}
@@ -20,8 +19,8 @@ use Rattle.nas_5gs.specs.declared.Context.{Context}
 use Rattle.nas_5gs.specs.declared.Direction.{Direction}
 use Rattle.nas_5gs.specs.declared.Direction.TheVariants.{Uplink, Downlink}
 use Rattle.nas_5gs.specs.declared.Connection.{Connection}
-use Rattle.nas_5gs.specs.declared.OpenAnswer.TheVariants as open'
-use Rattle.nas_5gs.specs.declared.EpsOpenAnswer.TheVariants as eps'
+use Rattle.nas_5gs.specs.OpenAnswer as open'
+use Rattle.nas_5gs.specs.EpsOpenAnswer as eps'
 use Rattle.nas_5gs.specs.Places.{direction_no, bearer_no, place_of, record_at, next_at}
 use Rattle.nas_5gs.specs.Leaves.{use_next, open_values, eps_open_values}
 use Rattle.nas_5gs.specs.Envelope.{envelope}

@@ -1,4 +1,5 @@
 -- The toy link.
+use Rattle.std.specs.Prelude.{Ok, Err}
 use Prim.Native.Nat.{ℕ, zero, suc, ◌+◌, ◌%◌, ◌≤◌, ◌<◌}
 use mathlib.Core.Path.{◌≡◌, refl, sym, ap, ◌∙◌, subst}
 use mathlib.Core.Bool.{Bool, true, false, cond}
@@ -8,9 +9,9 @@ use native.Mathlib.Omega.{arith}
 use lib.Dec.{eqb, ltb, leb}
 use lib.ListN.{drop}
 use borrow.Author.Tests.{eqb-true, eq-eqb, lt-ltb, ltb-true, leb-true}
-use Rattle.count.specs.declared.Opening.{Opening}
-use Rattle.count.specs.declared.Opening.TheVariants.{Late, Forward, None, Wrong}
-use Rattle.count.specs.Rule.{exhausted, bit, distance, forward_of, open_at, late_of, opening, former_highest, use_forward, use_late, resize_of}
+use Rattle.count.specs.Rule.{Opening, exhausted, bit, distance, forward_of, open_at, late_of, opening, former_highest, use_forward, use_late, resize_of}
+use Rattle.count.specs.declared.Taken.TheVariants.{Late, Forward}
+use Rattle.count.specs.declared.Missed.TheVariants.{NoCandidate, WrongCode}
 use Rattle.count.specs.Run.{State, uses, forward, resize, act, act_of, used}
 use Rattle.count.proofs.Candidates.{clash}
 use Rattle.count.proofs.Distance.{le-or-lt}
@@ -183,42 +184,42 @@ module _ (code : ℕ → ℕ → ℕ) where
 
   module _ (m : List ℕ) (s : State) where
     left_after : (o : Opening) → (toy_left m s o).context ≡ act (act_of false o) s
-    left_after (Late c) = refl
-    left_after (Forward c) = refl
-    left_after None = refl
-    left_after Wrong = refl
+    left_after (Ok (Late c)) = refl
+    left_after (Ok (Forward c)) = refl
+    left_after (Err NoCandidate) = refl
+    left_after (Err WrongCode) = refl
 
     left-small : (o : Opening) → (toy_left m s o).context.size ≡ s.size
-    left-small (Late c) = refl
-    left-small (Forward c) = refl
-    left-small None = refl
-    left-small Wrong = refl
+    left-small (Ok (Late c)) = refl
+    left-small (Ok (Forward c)) = refl
+    left-small (Err NoCandidate) = refl
+    left-small (Err WrongCode) = refl
 
     left-answers : (o : Opening) → used_by (toy_left m s o).values ≡ used (act_of false o)
-    left-answers (Late c) = refl
-    left-answers (Forward c) = refl
-    left-answers None = refl
-    left-answers Wrong = refl
+    left-answers (Ok (Late c)) = refl
+    left-answers (Ok (Forward c)) = refl
+    left-answers (Err NoCandidate) = refl
+    left-answers (Err WrongCode) = refl
 
     left-takes : (v c : ℕ) → drop 2 m ≡ v ∷ [] → (o : Opening) → Takes o c → TakenAs (toy_left m s o) c (v ∷ []) (0 ∷ [])
     left-takes v c q o (inl e) = rw e record { uses = refl; count = refl; number = inl refl; wrote = refl; hands = q }
     left-takes v c q o (inr e) = rw e record { uses = refl; count = refl; number = inl refl; wrote = refl; hands = q }
 
     left-taken : (v c : ℕ) (o : Opening) → TakenAs (toy_left m s o) c (v ∷ []) (0 ∷ []) → Takes o c
-    left-taken v c (Late c') t = inl (ap Late t.count)
-    left-taken v c (Forward c') t = inr (ap Forward t.count)
-    left-taken v c None t = let u = t.uses in let z : ◌≡◌ {A = ℕ} 0 1 = cc in absurd (omega arith)
-    left-taken v c Wrong t = let u = t.uses in let z : ◌≡◌ {A = ℕ} 0 1 = cc in absurd (omega arith)
+    left-taken v c (Ok (Late c')) t = inl (ap (λ (n : ℕ). Ok (Late n)) t.count)
+    left-taken v c (Ok (Forward c')) t = inr (ap (λ (n : ℕ). Ok (Forward n)) t.count)
+    left-taken v c (Err NoCandidate) t = let u = t.uses in let z : ◌≡◌ {A = ℕ} 0 1 = cc in absurd (omega arith)
+    left-taken v c (Err WrongCode) t = let u = t.uses in let z : ◌≡◌ {A = ℕ} 0 1 = cc in absurd (omega arith)
 
     abbrev LeftAlone : Opening → Type 0
     LeftAlone o =
         let t = toy_left m s o in ((t.values ≡ refusal 6) ⊎ (t.values ≡ refusal 7)) × (t.context ≡ s) × (t.output ≡ 0 ∷ [])
 
     left_alone : (o : Opening) → ((c : ℕ) → Takes o c → ⊥) → LeftAlone o
-    left_alone (Late c) n = absurd (n c (inl refl))
-    left_alone (Forward c) n = absurd (n c (inr refl))
-    left_alone None n = (inl refl, refl, refl)
-    left_alone Wrong n = (inr refl, refl, refl)
+    left_alone (Ok (Late c)) n = absurd (n c (inl refl))
+    left_alone (Ok (Forward c)) n = absurd (n c (inr refl))
+    left_alone (Err NoCandidate) n = (inl refl, refl, refl)
+    left_alone (Err WrongCode) n = (inr refl, refl, refl)
 
   takes-made : (z s : State) (v c : ℕ) (r : Unit {0}) → Small z s → c < exhausted
       → TakesBy (toy code by_rule) (λ s. s) Small Right z s (record { seal = v; count = c; octets = octets_of code c v }) r

@@ -1,10 +1,10 @@
 -- A toy link, small enough to compute with: a context is one record, a message is three octets, the last octet of its COUNT, a code, and an octet of data.
 -- `code` says which code a COUNT and data have, `find` which COUNT a receiver takes a message as. Of it are stated: where two ends fail without the premise on codes
 -- ("a worked pair of codes over a toy code function"), and that the statement rules out receivers that go further than ours. docs/TWO-ENDS.md draws the first.
-use Rattle.std.specs.Prelude.{ℕ, ◌+◌, ◌/◌, ◌%◌, ◌≡◌, Bool, true, false, cond, ◌&&◌, ◌⊎◌, List, [], ◌∷◌, eqb, ltb, leb, get_or, drop}
-use Rattle.count.specs.declared.Opening.{Opening}
-use Rattle.count.specs.declared.Opening.TheVariants.{Late, Forward, None, Wrong}
-use Rattle.count.specs.Rule.{exhausted, opening}
+use Rattle.std.specs.Prelude.{ℕ, ◌+◌, ◌/◌, ◌%◌, ◌≡◌, Bool, true, false, cond, ◌&&◌, ◌⊎◌, List, [], ◌∷◌, eqb, ltb, leb, get_or, drop, Ok, Err}
+use Rattle.count.specs.Rule.{Opening, exhausted, opening}
+use Rattle.count.specs.declared.Taken.TheVariants.{Late, Forward}
+use Rattle.count.specs.declared.Missed.TheVariants.{NoCandidate, WrongCode}
 use Rattle.count.specs.Run.{State, uses, resize, forward, late, act}
 use Rattle.nas_core.specs.Leaves.{Values, refusal, success}
 use Rattle.promise.specs.Outcomes.{Outcome, Uses, TakenAs}
@@ -28,10 +28,10 @@ toy_window w s =
 
 -- what the receiver leaves: the data is handed over in the one octet lent, which was 0
 abbrev pub toy_left : List ℕ → State → Opening → Outcome State
-toy_left m s (Late c) = record { values = used_one c 1; context = act (uses late c) s; output = drop 2 m }
-toy_left m s (Forward c) = record { values = used_one c 1; context = act (uses forward c) s; output = drop 2 m }
-toy_left m s None = record { values = refusal 6; context = s; output = 0 ∷ [] }
-toy_left m s Wrong = record { values = refusal 7; context = s; output = 0 ∷ [] }
+toy_left m s (Ok (Late c)) = record { values = used_one c 1; context = act (uses late c) s; output = drop 2 m }
+toy_left m s (Ok (Forward c)) = record { values = used_one c 1; context = act (uses forward c) s; output = drop 2 m }
+toy_left m s (Err NoCandidate) = record { values = refusal 6; context = s; output = 0 ∷ [] }
+toy_left m s (Err WrongCode) = record { values = refusal 7; context = s; output = 0 ∷ [] }
 
 module _ (code : ℕ → ℕ → ℕ) where
   -- the message for COUNT c that carries v
@@ -116,11 +116,11 @@ opening_one_below fits s o = opening 8 false fits (s.size + 1) s.at o
 
 -- 256 above the next COUNT too
 abbrev pub one_above : (ℕ → Bool) → State → ℕ → Opening
-one_above fits s o = let c = s.at.next + 256 in cond (fits c) (Forward c) (by_rule fits s o)
+one_above fits s o = let c = s.at.next + 256 in cond (fits c) (Ok (Forward c)) (by_rule fits s o)
 
 -- a COUNT below the next one again, where it is its own last octet
 abbrev pub again : (ℕ → Bool) → State → ℕ → Opening
-again fits s o = cond (ltb o s.at.next && fits o) (Late o) (by_rule fits s o)
+again fits s o = cond (ltb o s.at.next && fits o) (Ok (Late o)) (by_rule fits s o)
 
 pub record Tight : Type 0 where
   pub by-rule : TwoEnds (toy plain by_rule)

@@ -6,4 +6,4 @@ use Rattle.aes.proofs.cmac_mode.cmac_with.Goals as goal
 pub cmac_from-requires : goal.cmac_from-requires
 unfolding from_state chain
 cmac_from-requires c =
-    (c.requires, omega arith, refl)
+    (omega arith, refl)

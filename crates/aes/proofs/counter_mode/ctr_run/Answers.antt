@@ -11,18 +11,6 @@ pub loop-i-init : goal.loop-i-init
 loop-i-init c =
     (omega arith, omega arith, refl, λ h. (omega arith, omega arith), λ t l h s e f. f)
 
-pub second_state-p-requires : goal.second_state-p-requires
-second_state-p-requires c =
-    c.requires.0
-
-pub second_state-q-requires : goal.second_state-q-requires
-second_state-q-requires c =
-    c.requires.0
-
-pub two_states-s-requires : goal.two_states-s-requires
-two_states-s-requires c =
-    c.requires.0
-
 pub xor_rest-requires : goal.xor_rest-requires
 xor_rest-requires c =
     (omega arith, omega arith, omega arith)
@@ -54,10 +42,9 @@ loop-i-preserved c =
       λ t u h g e f.
           let room : a.end + get_or (counter t a.n) 15 0 * 16 ≤ a.n * 16 + 4096 = omega (arith, e, last) in
           let place : c.loop-i.o + a.n ≡ get_or (counter t a.n) 15 0 + i / 16 = omega (arith, e, at.1) in
-          let turn : c.wrapping_add_u8.result ≡ (c.loop-i.o + 1) % 256 = omega (arith, c.wrapping_add_u8.ensures.value) in
           let part =
           run-two v t u m a.g c.second_state-p.result c.second_state-q.result s a.n c.loop-i.o
-          c.wrapping_add_u8.result i a.end h g room c.loop-i.invariant.0 at.0 place turn inside
+          ((c.loop-i.o + 1) % 256) i a.end h g room c.loop-i.invariant.0 at.0 place refl inside
           c.second_state-p.ensures c.second_state-q.ensures c.two_states-s.ensures (c.loop-i.invariant.4 t u h g e f) in
           elim arms.branch [
             | then-end-i-ge32 w ↦
@@ -78,7 +65,7 @@ returns c =
     let a = c.args in
     let w = a.w.now in
     let n : c.loop-i.i ≡ a.end = omega arith in
-    c.loop-i.invariant.4 a.t o c.well_formed.1.1.0.1.0.1 c.requires.1 (sym (ap (λ (z : List ℕ). get_or z 15 0) c.counter_block-b.ensures))
+    c.loop-i.invariant.4 a.t o c.well_formed.1.0.1.0.1 c.requires.0 (sym (ap (λ (z : List ℕ). get_or z 15 0) c.counter_block-b.ensures))
     (e ∙ sym (as-ctr (cipher w) (cipher-length w) a.t o (a.n * 16))) ∙
     ap (λ (i : ℕ). ciphered (cipher w) (cipher-length w) a.t o i) n ∙
     as-ctr (cipher w) (cipher-length w) a.t o a.end

@@ -7,10 +7,6 @@ pub loop-i-init : goal.loop-i-init
 loop-i-init c =
     (omega arith, refl, λ h. omega arith, λ l e. e)
 
-pub shared-g-requires : goal.shared-g-requires
-shared-g-requires c =
-    c.requires.0
-
 pub ctr_run-requires : goal.ctr_run-requires
 ctr_run-requires c =
     let a = c.args in
@@ -19,7 +15,6 @@ ctr_run-requires c =
     let on = c.run_end-next.ensures.2 inside in
     let last : get_or c.counter_block-b.result 15 0 ≡ get_or (counter a.t (c.loop-i.i / 16)) 15 0 =
     ap (λ (z : List ℕ). get_or z 15 0) c.counter_block-b.ensures in (
-      c.requires.0,
       rw c.counter_block-b.ensures at c.shared-g.ensures,
       omega (arith, on),
       omega arith,

@@ -5,4 +5,4 @@ use Rattle.aes.proofs.nas.head.Goals as goal
 pub returns : goal.returns
 unfolding head
 returns c =
-    rw div-one
+    rw (c.to_be_bytes-c.ensures, div-one)

@@ -2,4 +2,4 @@ use Rattle.aes.proofs.nas.nea2_under.Goals as goal
 
 pub returns : goal.returns
 returns c =
-    rw (c.ctr_with.ensures, c.first_counter.ensures)
+    rw (c.ctr.ensures, c.first_counter.ensures)

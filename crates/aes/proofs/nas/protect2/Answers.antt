@@ -16,12 +16,12 @@ returns c =
     let a = c.args in
     let m = a.m.now in
     let k = a.ciphering_key in
-    let f : (List ℕ → List ℕ) = λ l. nea2_by k a.count a.bearer a.direction l in record {
+    let f : (List ℕ → List ℕ) = λ l. nea2_by k a.input.count a.input.bearer a.input.direction l in record {
       ciphered = elim c.if-m-gt1.branch [
         | then-m-gt1 w ↦ w.m-is ∙ behind 1 m _ f w.nea2_under.ensures
-        | else-m-gt1 w ↦ w.m-is ∙ short f (λ l. nea2-length k a.count a.bearer a.direction l) m w.if-m-gt1.false
+        | else-m-gt1 w ↦ w.m-is ∙ short f (λ l. nea2-length k a.input.count a.input.bearer a.input.direction l) m w.if-m-gt1.false
       ];
-      code = c.nia2_with.ensures;
+      code = c.nia2.ensures;
     }
 
 pub shape_of-m : goal.shape_of-m
@@ -29,4 +29,4 @@ shape_of-m c =
     let a = c.args in
     let k = a.ciphering_key in
     ap length (returns c).ciphered ∙
-    same_length (λ (l : List ℕ). nea2_by k a.count a.bearer a.direction l) (λ l. nea2-length k a.count a.bearer a.direction l) a.m.now
+    same_length (λ (l : List ℕ). nea2_by k a.input.count a.input.bearer a.input.direction l) (λ l. nea2-length k a.input.count a.input.bearer a.input.direction l) a.m.now

@@ -15,7 +15,7 @@ cmac_from-requires c =
     let m = c.args.m.now in
     let w = c.args.w.now in
     let zs = c.cipher_and_chain-x.new.p in
-    let some : 1 ≤ length m = omega (arith, c.requires.1) in
+    let some : 1 ≤ length m = omega (arith, c.requires) in
     let part : length (take (length m - 1) (drop 1 m)) ≡ length m - 1 = simp (length-take, length-drop) (omega arith) in
     let eight : length c.head-h.result ≡ 8 = c.head-h.type_inv.1.0.1 in
     let start : take 8 c.first_counter-t.result ≡ c.head-h.result =
@@ -25,7 +25,7 @@ cmac_from-requires c =
     (ap (λ (l : List ℕ). l ++ get_or m 0 0 ∷ zs) start ∙ first-behind c.head-h.result m zs some) part in
     let size : length zs ≡ length m - 1 = ap length c.cipher_and_chain-x.ensures.ciphered ∙ ctr-length (cipher w) (cipher-length w) c.first_counter-t.result (take (length m - 1) (drop 1 m)) ∙ part in
     let before : (length m - 1) / 16 - 2 ≤ (length c.head-h.result + length (put_mid 1 (length m - 1) m zs) - 1) / 16 = omega (arith, lent_length m zs some, size, eight) in
-    (c.requires.0, before, c.cipher_and_chain-x.ensures.chained ∙ all)
+    (before, c.cipher_and_chain-x.ensures.chained ∙ all)
 
 pub returns : goal.returns
 unfolding nia2_by
@@ -33,7 +33,7 @@ returns c =
     let a = c.args in
     let m = a.m.now in
     let w = a.w.now in record {
-      ciphered = behind 1 m _ (λ (l : List ℕ). ctr_of (cipher w) (head a.count a.bearer a.direction ++ replicate 8 0) l)
+      ciphered = behind 1 m _ (λ (l : List ℕ). ctr_of (cipher w) (head a.input.count a.input.bearer a.input.direction ++ replicate 8 0) l)
           (c.cipher_and_chain-x.ensures.ciphered ∙ ap (λ (l : List ℕ). ctr_of (cipher w) l (take (length m - 1) (drop 1 m))) c.first_counter-t.ensures);
       code = c.code_of.ensures ∙ ap (take 4) c.cmac_from.ensures ∙ rw c.head-h.ensures;
     }

@@ -12,12 +12,12 @@ use Rattle.aes.proofs.sealing.cipher_and_chain.Goals as goal
 
 pub ctr_to-requires : goal.ctr_to-requires
 ctr_to-requires c =
-    let h : 32 ≤ length c.args.p.now = omega (arith, c.requires.1) in
-    (c.requires.0, omega arith, h)
+    let h : 32 ≤ length c.args.p.now = omega (arith, c.requires) in
+    (omega arith, h)
 
 pub loop-i-init : goal.loop-i-init
 loop-i-init c =
-    let e : 32 ≤ length c.args.p.now / 16 * 16 = omega (arith, c.requires.1) in
+    let e : 32 ≤ length c.args.p.now / 16 * 16 = omega (arith, c.requires) in
     (omega arith, e, omega arith, λ l f. f, λ h n f. f)
 
 pub run_both-y-requires : goal.run_both-y-requires
@@ -34,7 +34,7 @@ run_both-y-requires c =
     let m : i ≤ c.run_end-next.result = omega (arith, q.2 c.loop-i-test.true) in
     let k : c.run_end-next.result ≤ length c.loop-i.p = omega (arith, q.0, n) in
     let f : c.run_end-next.result + get_or (counter a.t (i / 16)) 15 0 * 16 ≤ i + 4096 = rw (← e) q.1 in
-    (c.requires.0, g, c.loop-i.invariant.0, m, k, c.loop-i.invariant.2, q.3 c.loop-i.invariant.2 z, f)
+    (g, c.loop-i.invariant.0, m, k, c.loop-i.invariant.2, q.3 c.loop-i.invariant.2 z, f)
 
 pub loop-i-smaller : goal.loop-i-smaller
 loop-i-smaller c =
@@ -61,7 +61,7 @@ ctr_to-requires-2 c =
     let n : length c.loop-i.p ≡ length a.p.now = part_length (cipher w) (cipher-length w) a.t a.p.now _ c.loop-i.i p in
     let k : length a.p.now / 16 * 16 / 16 * 16 ≤ length c.loop-i.p = omega (arith, n) in
     let m : length c.loop-i.p ≤ length c.loop-i.p = omega arith in
-    (c.requires.0, k, m)
+    (k, m)
 
 pub state_at-requires : goal.state_at-requires
 state_at-requires c =
@@ -74,7 +74,7 @@ state_at-requires c =
     let f = c.loop-i.invariant.3 o e ∙ ap (λ (j : ℕ). ctr_of (cipher w) t (take j o) ++ drop j o) z in
     let g = c.ctr_to-2.ensures o f in
     let n : length c.ctr_to-2.new.m ≡ length o = part_length (cipher w) (cipher-length w) t o _ (length c.loop-i.p) g in
-    let h : length o / 16 * 16 - 41 + 15 < length c.ctr_to-2.new.m = omega (arith, n, c.requires.1) in
+    let h : length o / 16 * 16 - 41 + 15 < length c.ctr_to-2.new.m = omega (arith, n, c.requires) in
     h
 
 pub returns : goal.returns
@@ -92,8 +92,8 @@ returns c =
     let h = take 8 t ++ (a.f ∷ []) in
     let p = c.loop-i.p in
     let p' = c.ctr_to-2.new.m in
-    let sixteen = c.well_formed.1.1.1.0.1.0.1 in
-    let some : 7 ≤ length c.ctr_to.new.m = omega (arith, long w t o _ c.requires.1 c.ctr_to.ensures) in
+    let sixteen = c.well_formed.1.1.0.1.0.1 in
+    let some : 7 ≤ length c.ctr_to.new.m = omega (arith, long w t o _ c.requires c.ctr_to.ensures) in
     let n = nine t a.f c.ctr_to.new.m sixteen some in
     let q : length p ≡ length o = part_length (cipher w) (cipher-length w) t o p (length o / 16 * 16 / 16 * 16) f in
     let q' : length p' ≡ length o = part_length (cipher w) (cipher-length w) t o p' (length p) g in
@@ -104,7 +104,7 @@ returns c =
     ap (λ (j : ℕ). entering (cipher v) (h ++ p) (j / 16 - 2)) (z ∙ z') ∙
     entering-same (cipher v) h p p' end (end / 16 - 2) n (omega arith)
     (start-kept (cipher w) (cipher-length w) t o p p' end (length p) (omega (arith, q)) (f ∙ ap (λ (j : ℕ). ctr_of (cipher w) t (take j o) ++ drop j o) z') g) in
-    let r = summed _ _ _ c.xor_states.ensures ∙ ap (xor (from_state c.loop-i.x)) (ap from_state c.state_at.ensures ∙ back _ refl) in record { ciphered = all_done (cipher w) (cipher-length w) t o p' (length p) (omega (arith, q)) g; chained = chain-out v h p' _ _ end n (omega (arith, c.requires.1)) (omega arith) (omega (arith, q')) x r ∙ ap₂ (chain (cipher v)) (append_assoc (take 8 t) (a.f ∷ []) p') k }
+    let r = summed _ _ _ c.xor_states.ensures ∙ ap (xor (from_state c.loop-i.x)) (ap from_state c.state_at.ensures ∙ back _ refl) in record { ciphered = all_done (cipher w) (cipher-length w) t o p' (length p) (omega (arith, q)) g; chained = chain-out v h p' _ _ end n (omega (arith, c.requires)) (omega arith) (omega (arith, q')) x r ∙ ap₂ (chain (cipher v)) (append_assoc (take 8 t) (a.f ∷ []) p') k }
 
 pub shape_of-p : goal.shape_of-p
 shape_of-p c =
@@ -112,28 +112,28 @@ shape_of-p c =
     ap length (returns c).ciphered ∙ ctr-length (cipher a.w.now) (cipher-length a.w.now) a.t a.p.now
 
 pub bounds-p-0 : goal.bounds-p-0
-bounds-p-0 c = omega (arith, long _ _ _ _ c.requires.1 c.ctr_to.ensures)
+bounds-p-0 c = omega (arith, long _ _ _ _ c.requires c.ctr_to.ensures)
 
 pub bounds-p-1 : goal.bounds-p-1
-bounds-p-1 c = omega (arith, long _ _ _ _ c.requires.1 c.ctr_to.ensures)
+bounds-p-1 c = omega (arith, long _ _ _ _ c.requires c.ctr_to.ensures)
 
 pub bounds-p-2 : goal.bounds-p-2
-bounds-p-2 c = omega (arith, long _ _ _ _ c.requires.1 c.ctr_to.ensures)
+bounds-p-2 c = omega (arith, long _ _ _ _ c.requires c.ctr_to.ensures)
 
 pub bounds-p-3 : goal.bounds-p-3
-bounds-p-3 c = omega (arith, long _ _ _ _ c.requires.1 c.ctr_to.ensures)
+bounds-p-3 c = omega (arith, long _ _ _ _ c.requires c.ctr_to.ensures)
 
 pub bounds-p-4 : goal.bounds-p-4
-bounds-p-4 c = omega (arith, long _ _ _ _ c.requires.1 c.ctr_to.ensures)
+bounds-p-4 c = omega (arith, long _ _ _ _ c.requires c.ctr_to.ensures)
 
 pub bounds-p-5 : goal.bounds-p-5
-bounds-p-5 c = omega (arith, long _ _ _ _ c.requires.1 c.ctr_to.ensures)
+bounds-p-5 c = omega (arith, long _ _ _ _ c.requires c.ctr_to.ensures)
 
 pub bounds-p-6 : goal.bounds-p-6
-bounds-p-6 c = omega (arith, long _ _ _ _ c.requires.1 c.ctr_to.ensures)
+bounds-p-6 c = omega (arith, long _ _ _ _ c.requires c.ctr_to.ensures)
 
 pub run_end-next-requires : goal.run_end-next-requires
 run_end-next-requires c = c.loop-i.invariant.1
 
 pub overflow_sub-end : goal.overflow_sub-end
-overflow_sub-end c = omega (arith, c.requires.1)
+overflow_sub-end c = omega (arith, c.requires)

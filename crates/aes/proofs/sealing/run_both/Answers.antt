@@ -13,10 +13,10 @@ use Rattle.aes.proofs.sealing.run_both.Goals as goal
 pub loop-i-init : goal.loop-i-init
 loop-i-init c =
     let x = c.args.x in
-    let g = c.well_formed.1.1.1.1.1.1.0 in (
+    let g = c.well_formed.1.1.1.1.1.0 in (
       omega arith,
-      c.requires.3,
-      c.requires.5,
+      c.requires.2,
+      c.requires.4,
       refl,
       λ q. omega arith,
       sym (square x g.1.0.1 (columns-four x g.0 g.1.0.1 g.1.1)),
@@ -37,7 +37,7 @@ state_at-requires c =
 
 pub overflow_add-i : goal.overflow_add-i
 overflow_add-i c =
-    omega (arith, c.ranges.end.fits, c.requires.6, c.loop-i.invariant.2, c.loop-i-test.true)
+    omega (arith, c.ranges.end.fits, c.requires.5, c.loop-i.invariant.2, c.loop-i-test.true)
 
 pub loop-i-preserved : goal.loop-i-preserved
 loop-i-preserved c =
@@ -50,8 +50,8 @@ loop-i-preserved c =
     let o₀ = get_or c.counter_block-b.result 15 0 in
     let taken = c.loop-i-test.true in
     let inside : i + 16 ≤ length p = omega arith in
-    let enough : a.end + o₀ * 16 ≤ a.i + 4096 = rw c.counter_block-b.ensures c.requires.7 in
-    let octet = this-octet c.loop-i.o o₀ a.i i a.end c.requires.5 c.loop-i.invariant.2 c.loop-i.invariant.0 enough (c.loop-i.invariant.4 taken) taken in
+    let enough : a.end + o₀ * 16 ≤ a.i + 4096 = rw c.counter_block-b.ensures c.requires.6 in
+    let octet = this-octet c.loop-i.o o₀ a.i i a.end c.requires.4 c.loop-i.invariant.2 c.loop-i.invariant.0 enough (c.loop-i.invariant.4 taken) taken in
     let e = c.xor_state.ensures in
     let n : length c.xor_state.new.m ≡ length p = laid-length p _ _ i 16 (from-length _) inside e in
     let two = c.two_states-s.ensures in
@@ -60,7 +60,7 @@ loop-i-preserved c =
       omega arith,
       omega arith,
       n ∙ c.loop-i.invariant.3,
-      next-octet c.loop-i.o o₀ a.i i a.end c.requires.5 c.loop-i.invariant.2 c.loop-i.invariant.0 enough (c.loop-i.invariant.4 taken) _ c.wrapping_add_u8-o.ensures.value,
+      next-octet c.loop-i.o o₀ a.i i a.end c.requires.4 c.loop-i.invariant.2 c.loop-i.invariant.0 enough (c.loop-i.invariant.4 taken) _ refl,
       made-square _ _ c.xor_states-next.ensures,
       λ t k m h f g.
           let u : c.loop-i.o ≡ get_or (counter t (a.i / 16)) 15 0 + (i / 16 - a.i / 16) = c.loop-i.invariant.4 taken ∙ ap (λ (z : ℕ). z + (i / 16 - a.i / 16)) f in
@@ -79,7 +79,7 @@ returns c =
     let a = c.args in
     let z : c.loop-i.i ≡ a.end = omega arith in record {
       ciphered = λ k e.
-          c.loop-i.invariant.6 a.t k c.well_formed.1.1.1.0.1.0.1 c.requires.1 (ap (λ (q : List ℕ). get_or q 15 0) c.counter_block-b.ensures) e ∙
+          c.loop-i.invariant.6 a.t k c.well_formed.1.1.0.1.0.1 c.requires.0 (ap (λ (q : List ℕ). get_or q 15 0) c.counter_block-b.ensures) e ∙
           ap (λ (j : ℕ). ctr_of (cipher a.w.now) a.t (take j k) ++ drop j k) z;
       chained = λ h n e. c.loop-i.invariant.7 h n e ∙ ap (λ (j : ℕ). entering (cipher a.v.now) (h ++ c.loop-i.p) (j / 16 - 2)) z;
     }

@@ -1,10 +1,12 @@
-use Rattle.aes_block.specs.Field.{sbox, sbox_table}
-use Rattle.aes_block.specs.Mix.{mix_entry, mix_table}
-use Rattle.aes_block.proofs.Tables.{table-of-table}
+use Rattle.aes_block.specs.Field.{sbox, affine, inverse, squares, times, times_bits, x_times}
+use Rattle.aes_block.specs.Mix.{mix_entry}
+use Rattle.aes_block.proofs.Tables.{table_at}
 use borrow.Author.Rules.{rules}
 use Rattle.aes_block.proofs.columns.entry.Goals as goal
 
+-- Each entry is that of its value: one computed test over the 256 entries.
+
 pub returns : goal.returns
-unfolding mix_table sbox_table
+unfolding sbox affine inverse squares times times_bits x_times
 returns c =
-    rw c.requires (table-of-table mix_entry sbox 256 c.args.b (search rules))
+    table_at (λ b. mix_entry (sbox b)) 256 c.args.b (search rules)

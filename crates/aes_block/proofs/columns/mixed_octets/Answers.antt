@@ -7,12 +7,12 @@ unfolding under-key
 returns c =
     rw (
       c.xor_word-3.ensures,
-      c.from_row_2.ensures,
+      c.from_row-4.ensures,
       c.xor_word-2.ensures,
-      c.from_row_1.ensures,
+      c.from_row-3.ensures,
       c.xor_word-e.ensures,
-      c.from_row_3.ensures,
+      c.from_row-2.ensures,
       c.xor_word.ensures,
-      c.from_row_0.ensures,
+      c.from_row.ensures,
     )
-    (column (sbox c.args.a) (sbox c.args.b) (sbox c.args.c) (sbox c.args.d) c.args.k c.well_formed.1.0.1.0.1)
+    (column (sbox c.args.a) (sbox c.args.b) (sbox c.args.c) (sbox c.args.d) c.args.k c.well_formed.0.1.0.1)

@@ -3,4 +3,4 @@ use Rattle.aes_block.proofs.columns.unmixed.Goals as goal
 
 pub returns : goal.returns
 returns c =
-    rw c.entry-e.ensures (octet-1 c.args.b)
+    rw (c.to_le_bytes.ensures, c.entry.ensures) (octet-1 c.args.b)

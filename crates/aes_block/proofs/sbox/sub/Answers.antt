@@ -1,9 +1,11 @@
-use Rattle.aes_block.specs.Field.{sbox, sbox_table}
+use Rattle.aes_block.specs.Field.{sbox, affine, inverse, squares, times, times_bits, x_times}
 use Rattle.aes_block.proofs.Tables.{table_at}
 use borrow.Author.Rules.{rules}
 use Rattle.aes_block.proofs.sbox.sub.Goals as goal
 
+-- The table is the S-box at every octet: one computed test over the 256 entries.
+
 pub returns : goal.returns
-unfolding sbox_table
+unfolding sbox affine inverse squares times times_bits x_times
 returns c =
-    rw c.requires (table_at sbox 256 c.args.b (search rules))
+    table_at sbox 256 c.args.b (search rules)

@@ -6,13 +6,13 @@ unfolding two_rounds
 returns c =
     rw (
       c.xor_word-4.ensures,
-      c.from_row_1.ensures,
+      c.from_row-5.ensures,
       c.xor_word-3.ensures,
-      c.from_row_2.ensures,
+      c.from_row-4.ensures,
       c.xor_word-2.ensures,
-      c.from_row_3-2.ensures,
+      c.from_row-3.ensures,
       c.xor_word.ensures,
-      c.from_row_0.ensures,
+      c.from_row-2.ensures,
       c.xor_word-x.ensures,
-      c.from_row_3.ensures,
+      c.from_row.ensures,
     )

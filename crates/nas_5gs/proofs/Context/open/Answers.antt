@@ -7,7 +7,7 @@ use Rattle.nas_5gs.proofs.Passed.{open-passed, rooms}
 use Rattle.nas_5gs.specs.declared.Direction.{Direction}
 use Rattle.nas_5gs.specs.declared.Connection.{Connection}
 use Rattle.nas_5gs.specs.declared.Context.{Context}
-use Rattle.nas_5gs.specs.declared.OpenAnswer.{OpenAnswer}
+use Rattle.nas_5gs.specs.OpenAnswer.{OpenAnswer}
 use Rattle.nas_5gs.specs.Places.{direction_no, bearer_no, place_of}
 use Rattle.nas_5gs.specs.Leaves.{LeavesTwo}
 use Rattle.nas_5gs.specs.Open.{type_of, open_refusal, room_for, opened, open_of}

@@ -23,12 +23,12 @@ cipher_and_code-code-requires c =
 
 -- the octets with the last octet of the COUNT stored, and as many when what is behind it is back
 abbrev counted : After-cipher_and_code-code → List ℕ
-counted c = set c.args.body.now 4 (c.args.count % 256)
+counted c = set c.args.body.now 4 (c.args.input.count % 256)
 
 many : (c : After-cipher_and_code-code) → length (put_mid 4 (length (counted c) - 4) (counted c) c.cipher_and_code-code.new.octets) ≡ length c.args.body.now
 many c =
     same_len_mid 4 (length (counted c) - 4) (counted c) c.cipher_and_code-code.new.octets c.cipher_and_code-code.auto.octets
-    ∙ length-set c.args.body.now 4 (c.args.count % 256)
+    ∙ length-set c.args.body.now 4 (c.args.input.count % 256)
 
 pub put_code-requires : goal.put_code-requires
 put_code-requires c =
@@ -44,7 +44,7 @@ returns c =
     let a = c.args in
     let ys = c.cipher_and_code-code.new.octets in
     let room : 4 ≤ length (counted (goal.at.returns c).After-cipher_and_code-code) = simp length-set (omega (arith, c.requires)) in
-    let e : take (length (counted (goal.at.returns c).After-cipher_and_code-code) - 4) (drop 4 (counted (goal.at.returns c).After-cipher_and_code-code)) ≡ a.count % 256 ∷ drop 5 a.body.now = rest 4 (counted (goal.at.returns c).After-cipher_and_code-code) ∙ stored-behind (a.count % 256 ∷ []) a.body.now c.requires in
-    let made : ys ≡ a.count % 256 ∷ payload a.self a.ciphered a.count a.bearer a.direction (drop 5 a.body.now) = c.cipher_and_code-code.ensures.ciphered ∙ ap (λ (l : List ℕ). take 1 l ++ payload a.self a.ciphered a.count a.bearer a.direction (drop 1 l)) e in
+    let e : take (length (counted (goal.at.returns c).After-cipher_and_code-code) - 4) (drop 4 (counted (goal.at.returns c).After-cipher_and_code-code)) ≡ a.input.count % 256 ∷ drop 5 a.body.now = rest 4 (counted (goal.at.returns c).After-cipher_and_code-code) ∙ stored-behind (a.input.count % 256 ∷ []) a.body.now c.requires in
+    let made : ys ≡ a.input.count % 256 ∷ payload a.self a.ciphered a.input.count a.input.bearer a.input.direction (drop 5 a.body.now) = c.cipher_and_code-code.ensures.ciphered ∙ ap (λ (l : List ℕ). take 1 l ++ payload a.self a.ciphered a.input.count a.input.bearer a.input.direction (drop 1 l)) e in
     c.put_code.ensures
-    ∙ joined (c.cipher_and_code-code.ensures.code ∙ ap (λ (l : List ℕ). code_by a.self a.count a.bearer a.direction l) made) (rest_back 4 (counted (goal.at.returns c).After-cipher_and_code-code) ys room ∙ made)
+    ∙ joined (c.cipher_and_code-code.ensures.code ∙ ap (λ (l : List ℕ). code_by a.self a.input.count a.input.bearer a.input.direction l) made) (rest_back 4 (counted (goal.at.returns c).After-cipher_and_code-code) ys room ∙ made)

@@ -8,7 +8,7 @@ use Rattle.nas_core.specs.Keyed.{payload}
 use Rattle.nas_core.proofs.Keys.{payload-length}
 use Rattle.nas_core.proofs.Choices.{late-chosen, forward-chosen, late-near, ahead-near}
 use Rattle.nas_eps.specs.declared.Context.{Context}
-use Rattle.nas_eps.specs.declared.OpenAnswer.TheVariants.{Accepted}
+use Rattle.nas_eps.specs.OpenAnswer.{Accepted}
 use Rattle.nas_eps.specs.Leaves.{leaves, over}
 use Rattle.nas_eps.specs.Octets.{type_of}
 use Rattle.nas_eps.specs.Open.{handed, opened}

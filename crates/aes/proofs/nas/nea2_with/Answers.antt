@@ -1,7 +1,0 @@
-use Rattle.aes.specs.Keys.{nea2_by}
-use Rattle.aes.proofs.nas.nea2_with.Goals as goal
-
-pub returns : goal.returns
-unfolding nea2_by
-returns c =
-    c.nea2_under.ensures

@@ -1,5 +1,0 @@
-use Rattle.journal_calls.proofs.write_message.Goals as goal
-
-pub returns : goal.returns
-returns c =
-    rw (← c.high.ensures, ← c.low.ensures) c.write.ensures

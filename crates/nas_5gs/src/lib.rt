@@ -13,8 +13,8 @@ mod eps;
 mod open;
 mod seal;
 
-use nas_core::{Core, Done, Received};
 use count::{Record, Taken};
+use nas_core::{Core, Done, Received};
 use refusals::Refusal;
 
 #[derive(Clone, Copy, Debug, PartialEq, Eq)]

@@ -182,13 +182,7 @@ impl Core {
 
     // The octets of `inner` over those of `out`, and ciphered there if they are to be.
     #[tactic(auto, unfolding(crate::specs::Keyed::payload))]
-    pub fn fill(
-        self,
-        ciphered: bool,
-        input: Input,
-        inner: &[u8],
-        out: &mut [u8],
-    )
+    pub fn fill(self, ciphered: bool, input: Input, inner: &[u8], out: &mut [u8])
         requires { length inner.now ≡ length out.old }
         ensures { out.new ≡ payload self ciphered input.count input.bearer input.direction inner.now }
     {
@@ -200,12 +194,7 @@ impl Core {
     }
 
     // What is behind the first octet ciphered where it lies, if it is to be, and the code of the whole then.
-    fn cipher_and_code(
-        self,
-        ciphered: bool,
-        input: Input,
-        octets: &mut [u8],
-    ) -> [u8; 4]
+    fn cipher_and_code(self, ciphered: bool, input: Input, octets: &mut [u8]) -> [u8; 4]
         requires { 1 ≤ length octets.old }
         ensures ciphered { octets.new ≡ take 1 octets.old ++ payload self ciphered input.count input.bearer input.direction (drop 1 octets.old) }
         ensures code { result ≡ code_by self input.count input.bearer input.direction octets.new }
@@ -272,14 +261,7 @@ impl Core {
     }
 
     // Whether the code that begins at octet `at` fits the COUNT; what is behind the COUNT's last octet goes to the output then, deciphered if it is to be.
-    fn take(
-        self,
-        ciphered: bool,
-        input: Input,
-        at: usize,
-        message: &[u8],
-        out: &mut [u8],
-    ) -> bool
+    fn take(self, ciphered: bool, input: Input, at: usize, message: &[u8], out: &mut [u8]) -> bool
         requires { at + 5 + length out.old ≡ length message.now }
         ensures fits { result ≡ fits self input.count input.bearer input.direction at message.now }
         ensures read { out.new ≡ cond result (payload self ciphered input.count input.bearer input.direction (drop (at + 5) message.now)) out.old }

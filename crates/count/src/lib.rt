@@ -88,6 +88,13 @@ fn former_highest(next: u32, m: u32) -> u64
 }
 
 impl Record {
+    // No COUNT below the next one is open late.
+    pub fn fresh(next: u32) -> Record
+        ensures { result ≡ record { next = next; bits = 0 } }
+    {
+        Record { next, bits: 0 }
+    }
+
     // The least COUNT from next on whose k low bits are those of s; with null integrity (wraps) it goes round.
     #[tactic(auto, unfolding(crate::specs::Rule::forward_of))]
     pub fn forward(self, k: u8, wraps: bool, s: u8) -> Option<u32>

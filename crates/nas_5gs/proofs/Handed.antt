@@ -13,7 +13,6 @@ use Rattle.nas_core.specs.Keyed.{payload}
 use Rattle.nas_core.proofs.Keys.{payload-length}
 use Rattle.initial.specs.Inside.{Hidden, refused, handed as hidden, is_asked, hidden_of}
 use Rattle.initial.proofs.Laws.{laws}
-use Rattle.envelope.specs.declared.Inside.TheVariants.{Refused, Handed}
 use Rattle.envelope.specs.Initial.{beside_of, beside, told}
 use Rattle.envelope.proofs.Insides.{asked_is}
 use Rattle.nas_5gs.specs.declared.Context.{Context}
@@ -24,18 +23,6 @@ use Rattle.nas_5gs.specs.Envelope.{ciphers}
 use Rattle.nas_5gs.specs.Open.{inside_number, open_answer, handed}
 use Rattle.envelope.specs.Eps.{not_eps}
 use Rattle.nas_5gs.specs.Eps.{eps_answer, eps_handed}
-
--- by what is inside
-module _ (c f w t : ℕ) where
-  pub by-refused : (h : Hidden) → Refused ≡ told h → Content c f w t 18 ≡ open_answer c f w t (inside_number 0 h) (length (beside h))
-  unfolding inside_number
-  by-refused refused e = refl
-  by-refused (hidden q) e = absurd (let z : ◌≡◌ {A = ℕ} 0 1 = cc in omega arith)
-
-  pub by-handed : (n : ℕ) (h : Hidden) → Handed n ≡ told h → Accepted c f w t n ≡ open_answer c f w t (inside_number 0 h) (length (beside h))
-  unfolding inside_number
-  by-handed n refused e = absurd (let z : ◌≡◌ {A = ℕ} 0 1 = cc in omega arith)
-  by-handed n (hidden q) e = let l : n ≡ length q = cc in ap (Accepted c f w t) l
 
 -- what is asked for passes the look
 pub asked-looks : (t d : ℕ) (p : List ℕ) → is_asked t d p ≡ true → look_of t d p ≡ 0

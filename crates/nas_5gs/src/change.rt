@@ -28,9 +28,10 @@ fn context_with(
         ciphering_key: Key::of(ciphering_key),
         size: 0,
     };
+    let [a, b, c, d] = next;
     Context {
         core,
-        records: next.map(|next| Record { next, bits: 0 }),
+        records: [Record::fresh(a), Record::fresh(b), Record::fresh(c), Record::fresh(d)],
     }
 }
 
@@ -89,9 +90,15 @@ impl Context {
         requires { (old ≤ 64) × (new ≤ 64) }
         ensures { result ≡ record { core = self.core; records = four (λ p. resize_of old new (record_at self p)) } }
     {
+        let [a, b, c, d] = self.records;
         Context {
             core: self.core,
-            records: self.records.map(|record| record.resize(old, new)),
+            records: [
+                a.resize(old, new),
+                b.resize(old, new),
+                c.resize(old, new),
+                d.resize(old, new),
+            ],
         }
     }
 

@@ -48,6 +48,7 @@ impl Context {
         }
     }
 
+    #[tactic(auto, unfolding(crate::specs::Containers::s1_to_n1_refusal))]
     fn check_s1_to_n1(self, ncc: u8, ngksi: u8, room: usize) -> Result<(), Refusal>
         ensures { refused result ≡ s1_to_n1_refusal self ncc ngksi room }
     {
@@ -83,6 +84,7 @@ impl Context {
         }
     }
 
+    #[tactic(auto, unfolding(crate::specs::Containers::verify_s1_to_n1_refusal))]
     fn check_verify_s1_to_n1(self, value: &[u8]) -> Result<(), Refusal>
         ensures { refused result ≡ verify_s1_to_n1_refusal self value.now }
     {

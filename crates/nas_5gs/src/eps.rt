@@ -32,6 +32,7 @@ fn hand_eps(
 }
 
 impl Context {
+    #[tactic(auto, unfolding(crate::specs::Eps::seal_eps_refusal))]
     fn check_seal_eps(self, inner: &[u8], room: usize) -> Result<(), Refusal>
         ensures { refused result ≡ seal_eps_refusal self inner.now room }
     {
@@ -62,6 +63,7 @@ impl Context {
         }
     }
 
+    #[tactic(auto, unfolding(crate::specs::Eps::open_eps_refusal))]
     fn check_open_eps(self, message: &[u8], room: usize) -> Result<(), Refusal>
         ensures { refused result ≡ open_eps_refusal self message.now room }
     {

@@ -3,6 +3,7 @@
 
 ghost use Rattle.std.specs.Prelude.{◌≡◌, false, [], ◌∷◌, ◌+◌, ◌≤◌, ◌<◌};
 ghost use Rattle.count.specs.Rule.{exhausted};
+ghost use Rattle.refusals.specs.Numbers.{refused};
 ghost use Rattle.nas_core.specs.Keyed.{wraps};
 ghost use Rattle.nas_5gs.specs.Places.{direction_no, bearer_no, place_of, record_at, with_record, any_over, fault_of, used, used_late};
 
@@ -131,6 +132,7 @@ impl Context {
     }
 
     // Refusals 13, 14 and 16 of what the context holds.
+    #[tactic(auto, unfolding(crate::specs::Places::fault_of))]
     fn check(self) -> Result<(), Refusal>
         ensures { refused result ≡ fault_of self }
     {

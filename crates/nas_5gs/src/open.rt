@@ -15,6 +15,7 @@ use nas_core::{Core, Done, Received};
 use refusals::Refusal;
 
 // The room that a message may take: that of the shorter output where a second one is needed.
+#[tactic(auto, unfolding(crate::specs::Open::room_for))]
 fn room_for(direction: u8, message: &[u8], room: usize, second: usize) -> usize
     ensures { result ≡ room_for (type_of message.now) direction room second }
 {
@@ -67,6 +68,7 @@ fn hand(
 }
 
 impl Context {
+    #[tactic(auto, unfolding(crate::specs::Open::open_refusal))]
     fn check_open(self, message: &[u8], room: usize) -> Result<(), Refusal>
         ensures { refused result ≡ open_refusal self message.now room }
     {

@@ -17,6 +17,7 @@ use nas_core::{Done, Spent};
 use refusals::Refusal;
 
 impl Context {
+    #[tactic(auto, unfolding(crate::specs::Seal::seal_refusal))]
     fn check_seal(
         self,
         header_type: u8,
@@ -44,6 +45,7 @@ impl Context {
         nas_core::check_sending(envelope::HEADER, inner.len(), room, next)
     }
 
+    #[tactic(auto, unfolding(crate::specs::Seal::opaque_refusal))]
     fn check_opaque(
         self,
         header_type: u8,
@@ -121,6 +123,7 @@ impl Context {
         }
     }
 
+    #[tactic(auto, unfolding(crate::specs::Initial::initial_refusal))]
     fn check_initial(self, connection: Connection, whole: &[u8], room: usize) -> Result<(), Refusal>
         ensures { refused result ≡ initial_refusal self (place_of Uplink connection) whole.now room }
     {

@@ -31,7 +31,7 @@ fn context_with(
     };
     Context {
         core,
-        records: [up, down].map(|next| Record { next, bits: 0 }),
+        records: [Record::fresh(up), Record::fresh(down)],
     }
 }
 
@@ -91,9 +91,10 @@ impl Context {
         requires { (old ≤ 64) × (new ≤ 64) }
         ensures { result ≡ record { core = self.core; records = two (λ p. resize_of old new (record_at self p)) } }
     {
+        let [up, down] = self.records;
         Context {
             core: self.core,
-            records: self.records.map(|record| record.resize(old, new)),
+            records: [up.resize(old, new), down.resize(old, new)],
         }
     }
 

@@ -10,42 +10,36 @@ use Rattle.nas_5gs.proofs.Context.receive_eps.Goals as goal
 
 pub distance_to-requires : goal.distance_to-requires
 distance_to-requires c =
-    late-near _ _ (late-chosen _ _ _ _ _ _ _ (search rules) c.requires.0 (sym c.read_eps-choice.ensures.opening ∙ c.in-Late.is)).1
+    late-near _ _ (late-chosen _ _ _ _ _ _ _ (search rules) c.requires.0 (sym c.read_eps-choice.ensures.opening ∙ c.in-Ok-Late.is)).1
 
 pub used_late-requires : goal.used_late-requires
 used_late-requires c =
-    let l = late-chosen _ _ _ _ _ _ _ (search rules) c.requires.0 (sym c.read_eps-choice.ensures.opening ∙ c.in-Late.is) in (search rules, l.0, l.1)
+    let l = late-chosen _ _ _ _ _ _ _ (search rules) c.requires.0 (sym c.read_eps-choice.ensures.opening ∙ c.in-Ok-Late.is) in (search rules, l.0, l.1)
 
-pub distance_to-requires-in-Forward : goal.distance_to-requires-in-Forward
-distance_to-requires-in-Forward c =
-    ahead-near _ _ (forward-chosen _ _ _ _ _ _ _ (search rules) (sym c.read_eps-choice.ensures.opening ∙ c.in-Forward.is)).2
+pub distance_to-requires-in-Ok-Forward : goal.distance_to-requires-in-Ok-Forward
+distance_to-requires-in-Ok-Forward c =
+    ahead-near _ _ (forward-chosen _ _ _ _ _ _ _ (search rules) (sym c.read_eps-choice.ensures.opening ∙ c.in-Ok-Forward.is)).2
 
 pub used-requires : goal.used-requires
 used-requires c =
-    let f = forward-chosen _ _ _ _ _ _ _ (search rules) (sym c.read_eps-choice.ensures.opening ∙ c.in-Forward.is) in (search rules, f.0, c.requires.0, f.1)
+    let f = forward-chosen _ _ _ _ _ _ _ (search rules) (sym c.read_eps-choice.ensures.opening ∙ c.in-Ok-Forward.is) in (search rules, f.0, c.requires.0, f.1)
 
-pub returns-in-None : goal.returns-in-None
+pub returns-in-Err : goal.returns-in-Err
 unfolding eps_opened
-returns-in-None c =
-    simp (sym c.read_eps-choice.ensures.opening ∙ c.in-None.is, rw c.in-None.is at c.read_eps-choice.ensures.plain)
+returns-in-Err c = ?
 
-pub returns-in-Wrong : goal.returns-in-Wrong
+pub returns-in-Ok-Late : goal.returns-in-Ok-Late
 unfolding eps_opened
-returns-in-Wrong c =
-    simp (sym c.read_eps-choice.ensures.opening ∙ c.in-Wrong.is, rw c.in-Wrong.is at c.read_eps-choice.ensures.plain)
-
-pub returns-in-Late : goal.returns-in-Late
-unfolding eps_opened
-returns-in-Late c =
+returns-in-Ok-Late c =
     let a = c.args in
-    simp (sym c.read_eps-choice.ensures.opening ∙ c.in-Late.is)
+    simp (sym c.read_eps-choice.ensures.opening ∙ c.in-Ok-Late.is)
     (hands-eps _ _ _ _ _ _ (drop 6 a.message.now) _ _ a.out.now
-    (rest 6 a.message.now) c.distance_to.ensures c.used_late.ensures (rw c.in-Late.is at c.read_eps-choice.ensures.plain) c.hand_eps.ensures)
+    (rest 6 a.message.now) c.distance_to.ensures c.used_late.ensures (rw c.in-Ok-Late.is at c.read_eps-choice.ensures.plain) c.hand_eps.ensures)
 
-pub returns-in-Forward : goal.returns-in-Forward
+pub returns-in-Ok-Forward : goal.returns-in-Ok-Forward
 unfolding eps_opened
-returns-in-Forward c =
+returns-in-Ok-Forward c =
     let a = c.args in
-    simp (sym c.read_eps-choice.ensures.opening ∙ c.in-Forward.is)
+    simp (sym c.read_eps-choice.ensures.opening ∙ c.in-Ok-Forward.is)
     (hands-eps _ _ _ _ _ _ (drop 6 a.message.now) _ _ a.out.now
-    (rest 6 a.message.now) c.distance_to-in-Forward.ensures c.used.ensures (rw c.in-Forward.is at c.read_eps-choice.ensures.plain) c.hand_eps-in-Forward.ensures)
+    (rest 6 a.message.now) c.distance_to-in-Ok-Forward.ensures c.used.ensures (rw c.in-Ok-Forward.is at c.read_eps-choice.ensures.plain) c.hand_eps-in-Ok-Forward.ensures)

@@ -1,5 +1,5 @@
 use Rattle.envelope.proofs.Lengths.{envelope-length}
-use Rattle.nas_5gs.specs.Places.{next_at}
+use Rattle.nas_5gs.specs.Places.{direction_no, bearer_no, place_of, next_at}
 use Rattle.nas_5gs.specs.Leaves.{use_next}
 use Rattle.nas_5gs.specs.Seal.{sent}
 use Rattle.nas_5gs.proofs.Context.send.Goals as goal
@@ -7,4 +7,5 @@ use Rattle.nas_5gs.proofs.Context.send.Goals as goal
 pub returns : goal.returns
 unfolding sent use_next
 returns c =
-    simp (c.used.ensures, c.put.ensures, envelope-length c.args.self.core c.args.header_type (next_at c.args.self c.args.p) c.args.bearer c.args.direction c.args.inner.now)
+    let a = c.args in
+    simp (c.used.ensures, c.put.ensures, c.place.ensures.0, c.next_count-count.ensures, c.bearer.ensures, c.number.ensures, envelope-length a.self.core a.header_type (next_at a.self (place_of a.direction a.connection)) (bearer_no a.connection) (direction_no a.direction) a.inner.now)

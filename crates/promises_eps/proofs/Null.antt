@@ -61,7 +61,7 @@ round-used close s c r e = elim r [ ]
 
 -- the candidate that goes round, where every code passes
 round-found : (k : ℕ) (fit : ℕ → Bool) (s : State) (o : ℕ) → ((c : ℕ) → fit c ≡ true) → s.at.next < exhausted
-    → forward_only k true fit s.at o ≡ Forward ((s.at.next + distance k s.at.next o) % exhausted)
+    → forward_only k true fit s.at o ≡ Ok (Forward ((s.at.next + distance k s.at.next o) % exhausted))
 unfolding forward_only
 round-found k fit s o all h =
     let c = (s.at.next + distance k s.at.next o) % exhausted in

@@ -1,15 +1,11 @@
 -- A line that was read by pieces (docs/HEX-LINES.md): what is parsed is its text as far as it is held, and its octets are those of the digits that it ends with,
 -- more than the program holds above 65,536.
-use Rattle.std.specs.Prelude.{ℕ, ◌/◌, cond, eqb, ltb}
-use Rattle.hex_parse.specs.declared.Line.{Line}
-use Rattle.hex_eps_parse.specs.declared.Line.{Line as EpsLine}
+use Rattle.std.specs.Prelude.{ℕ, ◌/◌, cond, Option, Some, None, is_some, ltb}
+use Rattle.hex_parse.specs.declared.Parsed.{Parsed}
+use Rattle.hex_parse.specs.Parsed.{with}
 
-unfoldable pub ended : Line → ℕ → Line
-ended l digits =
-    cond (eqb l.from 0) l
-    (record { slot = l.slot; call = l.call; integrity_key = l.integrity_key; ciphering_key = l.ciphering_key; next = l.next; bits = l.bits; room = l.room; second = l.second; from = l.from; octets = digits / 2; long = ltb 65536 (digits / 2) })
+unfoldable pub octets_in : ℕ → Option ℕ
+octets_in digits = cond (ltb 65536 (digits / 2)) None (Some (digits / 2))
 
-unfoldable pub ended_eps : EpsLine → ℕ → EpsLine
-ended_eps l digits =
-    cond (eqb l.from 0) l
-    (record { slot = l.slot; call = l.call; integrity_key = l.integrity_key; ciphering_key = l.ciphering_key; next = l.next; bits = l.bits; room = l.room; from = l.from; octets = digits / 2; long = ltb 65536 (digits / 2) })
+unfoldable pub ended : {C : Type 0} {N : ℕ} → Parsed C N → ℕ → Parsed C N
+ended l digits = cond (is_some l.from) (with (octets_in digits) l) l

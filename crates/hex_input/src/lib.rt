@@ -2,11 +2,11 @@
 #![tactic(auto)]
 
 ghost use Rattle.std.specs.Prelude.{◌≡◌, ◌≤◌, length, take};
-ghost use Rattle.hex_input.specs.Read.{ended, ended_eps};
+ghost use Rattle.hex_input.specs.Read.{octets_in, ended};
 ghost use Rattle.hex_parse.specs.Lines.{line_of};
 ghost use Rattle.hex_eps_parse.specs.Lines.{line_of as eps_line_of};
 
-use hex_parse::Line;
+use hex_parse::{Line, Parsed};
 
 // Of the line that is being read: how much of its text is held, and with how many digits it ends.
 #[derive(Clone, Copy)]
@@ -23,7 +23,7 @@ const HOLDS: usize = 65536;
 fn beyond(text: &mut [u8], c: u8) -> usize
     ensures { result ≤ length text.old }
 {
-    if text.len() == 0 {
+    if text.is_empty() {
         return 0;
     }
     let last = text.len() - 1;
@@ -52,18 +52,16 @@ fn held(piece: &[u8], text: &mut [u8], n: usize) -> usize
     ensures { n ≤ length text.old → result ≤ length text.old }
 {
     let mut count = n;
-    let mut i = 0;
-    while i < piece.len() {
-        count = with(text, count, piece[i]);
-        i += 1;
+    for &c in piece {
+        count = with(text, count, c);
     }
     count
 }
 
 // A digit is half of an octet: two of them push out what stood there.
 fn put_digit(octets: &mut [u8], at: usize, c: u8) {
-    if at < octets.len() {
-        octets[at] = (octets[at] << 4) | hex_lines::digit(c);
+    if let Some(octet) = octets.get_mut(at) {
+        *octet = (*octet << 4) | hex_lines::digit(c);
     }
 }
 
@@ -87,38 +85,32 @@ fn decoded(piece: &[u8], octets: &mut [u8], digits: usize) -> usize
     ensures { digits ≤ 131074 → result ≤ 131074 }
 {
     let mut count = digits;
-    let mut i = 0;
-    while i < piece.len() {
-        count = with_digit(octets, count, piece[i]);
-        i += 1;
+    for &c in piece {
+        count = with_digit(octets, count, c);
     }
     count
 }
 
-// A parsed line with the octets of the digits that it ends with, for those of the text that is held.
-fn with_octets(line: Line, digits: usize) -> Line
-    ensures { result ≡ ended line digits }
+// The octets of so many digits; none where they are more than are held.
+fn octets_in(digits: usize) -> Option<usize>
+    ensures { result ≡ octets_in digits }
 {
-    if line.from == 0 {
-        return line;
-    }
-    let mut next = line;
-    next.octets = digits / 2;
-    next.long = HOLDS < digits / 2;
-    next
+    let n = digits / 2;
+    if n <= HOLDS { Some(n) } else { None }
 }
 
-// The same of an EPS line.
-fn with_eps_octets(line: hex_eps_parse::Line, digits: usize) -> hex_eps_parse::Line
-    ensures { result ≡ ended_eps line digits }
+// A parsed line with the octets of the digits that it ends with, for those of the text that is held.
+fn with_octets<C: Copy, const N: usize>(line: Parsed<C, N>, digits: usize) -> Parsed<C, N>
+    ensures { result ≡ ended line digits }
 {
-    if line.from == 0 {
-        return line;
+    if line.from.is_some() {
+        Parsed {
+            octets: octets_in(digits),
+            ..line
+        }
+    } else {
+        line
     }
-    let mut next = line;
-    next.octets = digits / 2;
-    next.long = HOLDS < digits / 2;
-    next
 }
 
 impl Input {
@@ -146,11 +138,12 @@ impl Input {
         let parsed = hex_parse::parse(hex_lines::front(text, self.held), spare);
         with_octets(parsed, self.digits)
     }
+
     // The EPS line that was read, in the same way.
     pub fn eps_line(self, text: &[u8], spare: &mut [u8]) -> hex_eps_parse::Line
-        ensures { result ≡ ended_eps (eps_line_of (take self.held text.now) (length spare.old)) self.digits }
+        ensures { result ≡ ended (eps_line_of (take self.held text.now) (length spare.old)) self.digits }
     {
         let parsed = hex_eps_parse::parse(hex_lines::front(text, self.held), spare);
-        with_eps_octets(parsed, self.digits)
+        with_octets(parsed, self.digits)
     }
 }

@@ -6,12 +6,19 @@ use mathlib.Core.List.{List, [], ◌∷◌}
 use native.Mathlib.Nat.{pow-suc, pow-le-pow_right, add-div_left}
 use native.Mathlib.Numerals.{add-one}
 use native.Mathlib.Omega.{arith}
-use borrow.Author.Tests.{lt-ltb, le-ltb, le-leb, lt-leb, eq-eqb, ne_eqb}
-use lib.Dec.{leb}
+use borrow.Author.Tests.{ltb-false, lt-ltb, le-ltb, le-leb, lt-leb}
 use lib.ListN.{length, get_or, take, drop, set, drop_of_length-le, length-drop}
-use lib.Seq.{drop-cons, take_all, take-nil, drop-length, paste, paste-suc, length-paste}
+use lib.Seq.{drop-cons, take_all, paste, paste-suc, length-paste}
 use Rattle.hex_lines.specs.Hex.{is_digit, digit_of, char_of, are_digits, number_after, octets_of, text_of, decimal_of, big_endian}
 use Rattle.hex_lines.specs.Line.{up_to}
+use Rattle.std.specs.Prelude.{cond, nat_eq, nat_lt, Option, Some, None}
+use Rattle.std.specs.List.{list_all, position, position_or_len}
+use Rattle.std.specs.Option.{unwrap_or}
+use Rattle.std.specs.Int.{to_be_bytes, w64}
+use Rattle.std.specs.List.{AllPass, Any}
+use Rattle.std.proofs.lemmas.List.Folds.{list_all_at}
+use Rattle.std.proofs.lemmas.List.Recursion.{is_position_or_len}
+use Rattle.std.proofs.lemmas.List.Sums.{list_all-from_AllPass}
 
 module _ (c : ℕ) where
   pub below : c < 48 → is_digit c ≡ false
@@ -34,10 +41,6 @@ module _ (c : ℕ) where
   unfolding is_digit
   above h = rw (le-leb 48 c (omega arith), lt-leb c 57 (omega arith), le-leb 97 c (omega arith), lt-leb c 102 h)
 
-  pub upper : 97 ≤ c → leb c 102 ≡ is_digit c
-  unfolding is_digit
-  upper h = rw (le-leb 48 c (omega arith), lt-leb c 57 (omega arith), le-leb 97 c h)
-
   pub no_value : is_digit c ≡ false → 0 ≡ digit_of c
   unfolding digit_of
   no_value e = rw e
@@ -51,37 +54,9 @@ module _ (c : ℕ) where
   letter-value h k = rw (letter h k, lt-leb c 57 (omega arith))
 
 module _ (text : List ℕ) (i : ℕ) (within : i < length text) where
-  pub digits_more : are_digits (drop i text) ≡ (is_digit (get_or text i 0) && are_digits (drop (suc i) text))
-  unfolding are_digits
-  digits_more = rw (drop-cons text i 0)
-
   pub number_more : (n : ℕ) → number_after n (drop i text) ≡ number_after (n * 16 + digit_of (get_or text i 0)) (drop (suc i) text)
   unfolding number_after
   number_more n = rw (drop-cons text i 0)
-
-  module _ (stop : ℕ) where
-    pub stops : get_or text i 0 ≡ stop → up_to stop (drop i text) ≡ []
-    unfolding up_to
-    stops e = rw (drop-cons text i 0, eq-eqb (get_or text i 0) stop e)
-
-    pub goes_on : (get_or text i 0 ≡ stop → ⊥) → up_to stop (drop i text) ≡ get_or text i 0 ∷ up_to stop (drop (suc i) text)
-    unfolding up_to
-    goes_on e = rw (drop-cons text i 0, ne_eqb (get_or text i 0) stop e)
-
-    pub found : (m : ℕ) → get_or text i 0 ≡ stop → i + length (up_to stop (drop i text)) ≡ m → i ≡ m
-    found m e g = omega (arith, ap length (stops e))
-
-    pub not_yet : (m : ℕ) → (get_or text i 0 ≡ stop → ⊥) → i + length (up_to stop (drop i text)) ≡ m
-        → i + 1 + length (up_to stop (drop (i + 1) text)) ≡ m
-    not_yet m e g = rw add-one (omega (arith, ap length (goes_on e)))
-
-  pub digits-stop : (r : Bool) → r ≡ is_digit (get_or text i 0) → r ≡ false → are_digits (drop i text) ≡ are_digits text
-      → false ≡ are_digits text
-  digits-stop r e f g = sym (sym g ∙ digits_more ∙ rw (← e, f))
-
-  pub digits-go : (r : Bool) → r ≡ is_digit (get_or text i 0) → r ≡ true → are_digits (drop i text) ≡ are_digits text
-      → are_digits (drop (i + 1) text) ≡ are_digits text
-  digits-go r e f g = rw add-one (sym (digits_more ∙ rw (← e, f)) ∙ g)
 
   pub number-go : (n r : ℕ) → r ≡ n * 16 + digit_of (get_or text i 0) → number_after n (drop i text) ≡ number_after 0 text
       → number_after r (drop (i + 1) text) ≡ number_after 0 text
@@ -90,14 +65,6 @@ module _ (text : List ℕ) (i : ℕ) (within : i < length text) where
 pub number-end : (text : List ℕ) (i n : ℕ) → length text ≤ i → number_after n (drop i text) ≡ number_after 0 text → n ≡ number_after 0 text
 unfolding number_after
 number-end text i n h e = sym (ap (number_after n) (drop_of_length-le text {i = i} h)) ∙ e
-
-pub not_found : (text : List ℕ) (i stop m : ℕ) → length text ≤ i → i + length (up_to stop (drop i text)) ≡ m → i ≡ m
-unfolding up_to
-not_found text i stop m h e = omega (arith, ap (λ (l : List ℕ). length (up_to stop l)) (drop_of_length-le text {i = i} h))
-
-pub digits-end : (text : List ℕ) (i : ℕ) → length text ≤ i → are_digits (drop i text) ≡ are_digits text → true ≡ are_digits text
-unfolding are_digits
-digits-end text i h e = sym (ap are_digits (drop_of_length-le text {i = i} h)) ∙ e
 
 -- a number of i digits is below 16 ^ i, and one more digit keeps it so
 pub small : (i n : ℕ) → i < 16 → n < 16 ^ i → n < 1152921504606846976
@@ -191,6 +158,53 @@ put_front d s out i v so_far hd hs e =
     let z : 0 + i ≡ i = omega arith in
     rw z at (put_one d s out 0 i v so_far (omega arith) hs e)
 
+digits-all : (text : List ℕ) → list_all is_digit text ≡ are_digits text
+unfolding are_digits
+digits-all [] = refl
+digits-all (c ∷ text) = ap (λ (b : Bool). is_digit c && b) (digits-all text)
+
+-- a run of digits, as a test of each character answers it
+pub digits-tested : (text : List ℕ) (r : Bool) → (r ≡ true → AllPass is_digit text) → (r ≡ false → Any (λ x. is_digit x ≡ false) text) → r ≡ are_digits text
+digits-tested text true f g = sym (list_all-from_AllPass is_digit text (f refl)) ∙ digits-all text
+digits-tested text false f g =
+    let a : Any (λ x. is_digit x ≡ false) text = g refl in sym (list_all_at is_digit text a.0 a.1 a.2 (rw a.3 a.4)) ∙ digits-all text
+
+one_more : (b : Bool) (x : ℕ) (l : List ℕ) → length (cond b [] (x ∷ l)) ≡ cond b 0 (1 + length l)
+one_more true x l = refl
+one_more false x l = omega arith
+
+-- what stands before a stop reaches to the first one
+pub up_to-length : (stop : ℕ) (text : List ℕ) → length (up_to stop text) ≡ position_or_len (λ c. nat_eq c stop) text
+unfolding up_to
+up_to-length stop text =
+    is_position_or_len (λ (l : List ℕ). length (up_to stop l)) (λ c. nat_eq c stop) refl (λ x xs. one_more (nat_eq x stop) x (up_to stop xs)) text
+
+pub up_to-within : (stop : ℕ) (text : List ℕ) → length (up_to stop text) ≤ length text
+unfolding up_to
+up_to-within stop [] = omega arith
+up_to-within stop (c ∷ text) = shorter (nat_eq c stop) c (up_to stop text) text (up_to-within stop text)
+  where
+    shorter : (b : Bool) (x : ℕ) (l m : List ℕ) → length l ≤ length m → length (cond b [] (x ∷ l)) ≤ suc (length m)
+    shorter true x l m h = omega arith
+    shorter false x l m h = omega arith
+
+or_end : (i n : ℕ) → i ≤ n → unwrap_or (cond (nat_lt i n) (Some i) None) n ≡ i
+or_end i n h = by (nat_lt i n) refl
+  where
+    by : (b : Bool) → nat_lt i n ≡ b → unwrap_or (cond b (Some i) None) n ≡ i
+    by true e = refl
+    by false e = omega (arith, ltb-false i n e)
+
+-- the place of the first stop in the rest of a text, or its end
+pub place : (stop : ℕ) (rest part : List ℕ) (found : Option ℕ) (n : ℕ) → part ≡ rest
+    → found ≡ position (λ c. nat_eq c stop) part → n ≡ unwrap_or found (length part) → n ≡ length (up_to stop rest)
+place stop rest part found n whole is e =
+    rw (up_to-length stop rest) (e ∙ rw (is, whole) (or_end (position_or_len (λ c. nat_eq c stop) rest) (length rest) (rw (← up_to-length stop rest) (up_to-within stop rest))))
+
+pub bytes : (n : ℕ) (l : List ℕ) → l ≡ to_be_bytes w64 n → l ≡ big_endian n
+unfolding big_endian
+bytes n l e = e
+
 -- the last octets of a number, put
 pub last-octets : (n octets : ℕ) → octets ≤ 8 → length (drop (8 - octets) (big_endian n)) ≡ octets
 unfolding big_endian
@@ -200,13 +214,6 @@ pub last-part : (n octets : ℕ) → octets ≤ 8
     → take (8 - (8 - octets)) (drop (8 - octets) (big_endian n)) ≡ drop (8 - octets) (big_endian n)
 last-part n octets h = take_all (8 - (8 - octets)) (drop (8 - octets) (big_endian n)) (omega (arith, last-octets n octets h))
 
--- a text from a place on, and its front
-module _ (text : List ℕ) (at : ℕ) where
-  pub beyond : (k : ℕ) → length text < at → take k (drop (length text) text) ≡ drop at text
-  beyond k h = let l : length text ≤ at = omega arith in rw (drop-length text, take-nil k, drop_of_length-le text {i = at} l)
-
-  pub all : take (length text - at) (drop at text) ≡ drop at text
-  all = take_all (length text - at) (drop at text) (omega (arith, length-drop at text))
-
-  pub whole : length text < at → text ≡ take at text
-  whole h = sym (take_all at text (omega arith))
+-- a text from a place on
+pub all : (text : List ℕ) (at : ℕ) → take (length text - at) (drop at text) ≡ drop at text
+all text at = take_all (length text - at) (drop at text) (omega (arith, length-drop at text))

@@ -7,10 +7,9 @@ mod read;
 pub use print::{put_decimal, put_number, put_octets, put_text};
 pub use read::{after, decode, digit, find, front, is_digit, value};
 
-// Octets as text: how many, or too many for the output, or text that is none.
-#[derive(Clone, Copy)]
-pub enum Decoded {
+// Why a text is not taken as octets: it is none, or is too many of them for the output.
+#[derive(Clone, Copy, Debug, PartialEq, Eq)]
+pub enum NotDecoded {
     Bad,
     Long,
-    Octets(usize),
 }

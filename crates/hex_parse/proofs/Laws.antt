@@ -1,11 +1,11 @@
 -- A form and a text, place by place; parts of a text; the octets at its end.
 use Prim.Native.Nat.{ℕ, suc, ◌+◌, ◌≤◌, ◌<◌}
-use mathlib.Core.Path.{◌≡◌, refl, sym, ap, ◌∙◌}
+use mathlib.Core.Path.{◌≡◌, refl, sym, ◌∙◌}
 use mathlib.Core.Bool.{Bool, true, false, cond, ◌&&◌}
 use mathlib.Core.List.{List, [], ◌∷◌}
 use native.Mathlib.Numerals.{add-one}
 use native.Mathlib.Omega.{arith}
-use borrow.Author.Tests.{eqb-true, eq-eqb, ne_eqb}
+use borrow.Author.Tests.{eqb-true}
 use lib.Dec.{eqb, leb}
 use lib.ListN.{length, get_or, drop, drop_of_length-le}
 use lib.Seq.{drop-cons}
@@ -13,8 +13,7 @@ use Rattle.hex_lines.specs.Line.{are_octets, written}
 use Rattle.hex_lines.specs.Hex.{are_digits}
 use Rattle.hex_lines.proofs.Texts as texts
 use Rattle.hex_parse.specs.Form.{may_stand, begins}
-use Rattle.hex_parse.specs.Lines.{is_none, head_of, with_octets, line_of, octets_in}
-use Rattle.hex_parse.specs.declared.Line.{Line}
+use Rattle.hex_parse.specs.Parsed.{is_none}
 
 module _ (form text : List ℕ) (i : ℕ) where
   more : i < length form → i < length text
@@ -56,17 +55,3 @@ unfolding is_none
 dash-written text held e =
     let one : length text ≡ 1 = eqb-true _ _ (left (eqb (length text) 1) (eqb (get_or text 0 0) 45) e) in
     (texts.none text held (texts.odd text (rw one (λ z. omega arith)))).1
-
--- a line without octets, and one with
-module _ (text held : List ℕ) (l : Line) (is : l ≡ head_of text) where
-  pub without : l.from ≡ 0 → (l ≡ line_of text (length held)) × (held ≡ octets_in text held)
-  unfolding line_of octets_in
-  without z = (rw (← is, eq-eqb l.from 0 z), rw (← is, eq-eqb l.from 0 z))
-
-  pub ended : (after rest : List ℕ) (r : Line) → (l.from ≡ 0 → ⊥) → rest ≡ drop l.from text
-      → r ≡ with_octets l rest (length held) → after ≡ written rest held → (r ≡ line_of text (length held)) × (after ≡ octets_in text held)
-  unfolding line_of octets_in
-  ended after rest r z d s w = (
-    rw (← is, ne_eqb l.from 0 z) (s ∙ ap (λ (x : List ℕ). with_octets l x (length held)) d),
-    rw (← is, ne_eqb l.from 0 z) (w ∙ ap (λ (x : List ℕ). written x held) d),
-  )

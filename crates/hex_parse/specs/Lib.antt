@@ -1,3 +1,4 @@
 pub mod Form
+pub mod Parsed
 pub mod Names
 pub mod Lines

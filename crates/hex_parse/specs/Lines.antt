@@ -1,13 +1,14 @@
 -- The lines (docs/HEX-LINES.md, "Calls"), row by row: the form of each, and the call that it is.
-use Rattle.std.specs.Prelude.{ℕ, Bool, true, false, cond, ◌&&◌, List, [], ◌∷◌, eqb, length, get_or, drop, replicate}
-use Rattle.hex_lines.specs.Line.{decoded_of, written}
-use Rattle.hex_lines.specs.declared.Decoded.{Decoded}
-use Rattle.hex_lines.specs.declared.Decoded.TheVariants as decoded
+use Rattle.std.specs.Prelude.{ℕ, cond, List, [], ◌∷◌, Some, None, length, replicate}
 use Rattle.hex_parse.specs.Form.{slot, digits, direction, connection, key, is_row, has_head, from, word, key_word}
 use Rattle.hex_parse.specs.Names as name
 use Rattle.hex_parse.specs.declared.Call.{Call}
 use Rattle.hex_parse.specs.declared.Call.TheVariants.{Bad, New, Restore, Reselect, Window, Seal, Opaque, Initial, Open, EpsSeal, EpsOpen, N1ToS1, VerifyN1ToS1, S1ToN1, VerifyS1ToN1, Raw, Show, Across, WindowIn, SealIn, OpenIn}
-use Rattle.hex_parse.specs.declared.Line.{Line}
+use Rattle.hex_parse.specs.declared.Parsed.{Parsed}
+use Rattle.hex_parse.specs.Parsed.{line_with, headed_two, headed, plain, ended_of, held_of}
+
+abbrev pub Line : Type 0
+Line = Parsed Call 4
 
 -- new S II CC IK CK, and reselect so
 abbrev pub selection : List ℕ → List (List ℕ)
@@ -59,26 +60,8 @@ raw_form =
     name.raw ∷ slot ∷ digits 2 ∷ digits 2 ∷ key ∷ key ∷ digits 2
     ∷ digits 8 ∷ digits 16 ∷ digits 8 ∷ digits 16 ∷ digits 8 ∷ digits 16 ∷ digits 8 ∷ digits 16 ∷ []
 
--- a call on a slot, with keys, next COUNTs and window bits beside it; how much output and second output is lent; where its octets begin,
--- 0 for none
-abbrev pub line_with : ℕ → Call → List ℕ → List ℕ → List ℕ → List ℕ → ℕ → ℕ → ℕ → Line
-line_with s call ik ck next bits n m at =
-    record { slot = s; call = call; integrity_key = ik; ciphering_key = ck; next = next; bits = bits; room = n; second = m; from = at; octets = 0; long = false }
-
-abbrev pub no_key : List ℕ
-no_key = replicate 16 0
-
 abbrev pub no4 : List ℕ
 no4 = replicate 4 0
-
-abbrev pub headed_two : ℕ → Call → ℕ → ℕ → ℕ → Line
-headed_two s call n m at = line_with s call no_key no_key no4 no4 n m at
-
-abbrev pub headed : ℕ → Call → ℕ → ℕ → Line
-headed s call n at = headed_two s call n 0 at
-
-abbrev pub plain : ℕ → Call → Line
-plain s call = headed s call 0 0
 
 abbrev pub bad : Line
 bad = plain 0 Bad
@@ -86,7 +69,7 @@ bad = plain 0 Bad
 -- creation and reselection: codes and keys
 abbrev pub selected : List (List ℕ) → List ℕ → (ℕ → ℕ → Call) → Line
 selected form t call =
-    line_with (word form t 1) (call (word form t 2) (word form t 3)) (key_word form t 4) (key_word form t 5) no4 no4 0 0 0
+    line_with (word form t 1) (call (word form t 2) (word form t 3)) (key_word form t 4) (key_word form t 5) no4 no4 0 0 None
 
 unfoldable pub change_line : List ℕ → Line → Line
 change_line t other =
@@ -100,7 +83,7 @@ unfoldable pub restore_line : List ℕ → Line
 restore_line t =
     line_with (word restore_form t 1) (Restore (word restore_form t 2) (word restore_form t 3)) (key_word restore_form t 4) (key_word restore_form t 5)
     (word restore_form t 6 ∷ word restore_form t 7 ∷ word restore_form t 8 ∷ word restore_form t 9 ∷ [])
-    no4 0 0 0
+    no4 0 0 None
 
 -- with window bits too
 unfoldable pub raw_line : List ℕ → Line
@@ -108,7 +91,7 @@ raw_line t =
     line_with (word raw_form t 1) (Raw (word raw_form t 2) (word raw_form t 3) (word raw_form t 6)) (key_word raw_form t 4) (key_word raw_form t 5)
     (word raw_form t 7 ∷ word raw_form t 9 ∷ word raw_form t 11 ∷ word raw_form t 13 ∷ [])
     (word raw_form t 8 ∷ word raw_form t 10 ∷ word raw_form t 12 ∷ word raw_form t 14 ∷ [])
-    0 0 0
+    0 0 None
 
 unfoldable pub state_line : List ℕ → Line → Line
 state_line t other =
@@ -122,28 +105,28 @@ abbrev pub after_head : List (List ℕ) → ℕ
 after_head form = from form (length form)
 
 abbrev pub sealed : List (List ℕ) → List ℕ → (ℕ → ℕ → ℕ → Call) → Line
-sealed form t call = headed (word form t 1) (call (word form t 2) (word form t 3) (word form t 4)) (word form t 5) (after_head form)
+sealed form t call = headed (word form t 1) (call (word form t 2) (word form t 3) (word form t 4)) (word form t 5) (Some (after_head form))
 
 abbrev pub eps : List (List ℕ) → List ℕ → Call → Line
-eps form t call = headed (word form t 1) call (word form t 2) (after_head form)
+eps form t call = headed (word form t 1) call (word form t 2) (Some (after_head form))
 
 unfoldable pub seal_line : List ℕ → Line → Line
 seal_line t other =
     cond (has_head (sealing name.seal) t) (sealed (sealing name.seal) t Seal)
     (cond (has_head (sealing name.opaque) t) (sealed (sealing name.opaque) t Opaque)
-    (cond (has_head initial_form t) (headed (word initial_form t 1) (Initial (word initial_form t 2)) (word initial_form t 3) (after_head initial_form))
+    (cond (has_head initial_form t) (headed (word initial_form t 1) (Initial (word initial_form t 2)) (word initial_form t 3) (Some (after_head initial_form)))
     other))
 
 -- the shorter form lends as much to the second output as to the first
 abbrev pub opened : List ℕ → List ℕ → (ℕ → ℕ → Call) → Line
 opened name t call =
     let form = opening name in
-    headed_two (word form t 1) (call (word form t 2) (word form t 3)) (word form t 4) (word form t 4) (after_head form)
+    headed_two (word form t 1) (call (word form t 2) (word form t 3)) (word form t 4) (word form t 4) (Some (after_head form))
 
 abbrev pub opened2 : List ℕ → List ℕ → (ℕ → ℕ → Call) → Line
 opened2 name t call =
     let form = opening2 name in
-    headed_two (word form t 1) (call (word form t 2) (word form t 3)) (word form t 4) (word form t 5) (after_head form)
+    headed_two (word form t 1) (call (word form t 2) (word form t 3)) (word form t 4) (word form t 5) (Some (after_head form))
 
 unfoldable pub open_line : List ℕ → Line → Line
 open_line t other =
@@ -176,8 +159,8 @@ container_line t other =
     cond (is_row (alone name.n1s1) t) (plain (word (alone name.n1s1) t 1) N1ToS1)
     (cond (is_row octet_form t) (plain (word octet_form t 1) (VerifyN1ToS1 (word octet_form t 2)))
     (cond (is_row s1n1_form t)
-    (headed (word s1n1_form t 1) (S1ToN1 (word s1n1_form t 2) (word s1n1_form t 3)) (word s1n1_form t 4) 0)
-    (cond (has_head (alone name.s1n1v) t) (headed (word (alone name.s1n1v) t 1) VerifyS1ToN1 0 (after_head (alone name.s1n1v)))
+    (headed (word s1n1_form t 1) (S1ToN1 (word s1n1_form t 2) (word s1n1_form t 3)) (word s1n1_form t 4) None)
+    (cond (has_head (alone name.s1n1v) t) (headed (word (alone name.s1n1v) t 1) VerifyS1ToN1 0 (Some (after_head (alone name.s1n1v))))
     other)))
 
 -- the line up to its octets
@@ -190,26 +173,9 @@ rest_of t = change_line t (container_line t (state_line t (beyond_of t)))
 unfoldable pub head_of : List ℕ → Line
 head_of t = seal_line t (open_line t (eps_line t (rest_of t)))
 
--- the octets at the end: `-` for none, else an even run of digits that is not empty, held or more than there is room for
-abbrev pub counted : Line → Decoded → Line
-counted l decoded.Bad = bad
-counted l decoded.Long =
-    record { slot = l.slot; call = l.call; integrity_key = l.integrity_key; ciphering_key = l.ciphering_key; next = l.next; bits = l.bits; room = l.room; second = l.second; from = l.from; octets = 0; long = true }
-counted l (decoded.Octets n) =
-    record { slot = l.slot; call = l.call; integrity_key = l.integrity_key; ciphering_key = l.ciphering_key; next = l.next; bits = l.bits; room = l.room; second = l.second; from = l.from; octets = n; long = false }
-
--- `-` is 45
-unfoldable pub is_none : List ℕ → Bool
-is_none text = eqb (length text) 1 && eqb (get_or text 0 0) 45
-
-unfoldable pub with_octets : Line → List ℕ → ℕ → Line
-with_octets l text room =
-    cond (eqb (length text) 0) bad (cond (is_none text) l (counted l (decoded_of text room)))
-
 -- the line, where so many octets can be held; and what holds them
 unfoldable pub line_of : List ℕ → ℕ → Line
-line_of text room =
-    cond (eqb (head_of text).from 0) (head_of text) (with_octets (head_of text) (drop (head_of text).from text) room)
+line_of text room = ended_of bad (head_of text) text room
 
 unfoldable pub octets_in : List ℕ → List ℕ → List ℕ
-octets_in text held = cond (eqb (head_of text).from 0) held (written (drop (head_of text).from text) held)
+octets_in text held = held_of (head_of text) text held

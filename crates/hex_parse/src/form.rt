@@ -5,43 +5,32 @@ ghost use Rattle.hex_parse.specs.Form.{may_stand, between, begins, fits, number_
 fn is_between(low: u8, high: u8, c: u8) -> bool
     ensures { result ≡ between low high c }
 {
-    if c < low {
-        return false;
-    }
-    c <= high
+    (low..=high).contains(&c)
 }
 
 fn may_stand(place: u8, c: u8) -> bool
     ensures { result ≡ may_stand place c }
 {
-    if place == b'X' {
-        return hex_lines::is_digit(c);
+    match place {
+        b'X' => hex_lines::is_digit(c),
+        b'S' => is_between(b'0', b'7', c),
+        b'D' => is_between(b'0', b'1', c),
+        b'C' => is_between(b'1', b'2', c),
+        _ => c == place,
     }
-    if place == b'S' {
-        return is_between(b'0', b'7', c);
-    }
-    if place == b'D' {
-        return is_between(b'0', b'1', c);
-    }
-    if place == b'C' {
-        return is_between(b'1', b'2', c);
-    }
-    c == place
 }
 
 // Whether a text begins as a form says.
 pub fn begins(form: &[u8], text: &[u8]) -> bool
     ensures { result ≡ begins form.now text.now }
 {
-    let mut i = 0;
-    while i < form.len() {
+    for i in 0..form.len() {
         if text.len() <= i {
             return false;
         }
         if !may_stand(form[i], text[i]) {
             return false;
         }
-        i += 1;
     }
     true
 }
@@ -50,10 +39,7 @@ pub fn begins(form: &[u8], text: &[u8]) -> bool
 pub fn fits(form: &[u8], text: &[u8]) -> bool
     ensures { result ≡ fits form.now text.now }
 {
-    if text.len() != form.len() {
-        return false;
-    }
-    begins(form, text)
+    text.len() == form.len() && begins(form, text)
 }
 
 fn part(text: &[u8], at: usize, n: usize) -> &[u8]
@@ -109,6 +95,6 @@ pub fn key(text: &[u8], at: usize) -> [u8; 16]
     ensures { result ≡ key_at text.now at }
 {
     let mut key = [0u8; 16];
-    hex_lines::decode(part(text, at, 32), &mut key);
+    let _ = hex_lines::decode(part(text, at, 32), &mut key);
     key
 }

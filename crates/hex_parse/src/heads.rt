@@ -1,77 +1,40 @@
 // The forms, and what each line is up to its octets: X is any digit, S a slot, D a direction, C a connection.
-ghost use Rattle.std.specs.Prelude.{◌≡◌};
-ghost use Rattle.hex_parse.specs.Lines.{no4, line_with, headed_two, headed, plain, bad, restore_line, raw_line, change_line, open_line, eps_line, container_line, state_line, in_place_line, across_line, beyond_of, rest_of, head_of};
+ghost use Rattle.std.specs.Prelude.{◌≡◌, ◌+◌, ◌≤◌, Some};
+ghost use Rattle.hex_parse.specs.Parsed.{headed_two, selected_at};
+ghost use Rattle.hex_parse.specs.Form.{number_at};
+ghost use Rattle.hex_parse.specs.Lines.{bad, restore_line, raw_line, change_line, open_line, eps_line, container_line, state_line, in_place_line, beyond_of, rest_of, head_of};
 
 use crate::{Call, Line, form};
-
-fn line_with(
-    slot: usize,
-    call: Call,
-    integrity_key: [u8; 16],
-    ciphering_key: [u8; 16],
-    next: [u32; 4],
-    bits: [u64; 4],
-    room: usize,
-    second: usize,
-    from: usize,
-) -> Line
-    ensures { result ≡ line_with slot call integrity_key ciphering_key next bits room second from }
-{
-    Line {
-        slot,
-        call,
-        integrity_key,
-        ciphering_key,
-        next,
-        bits,
-        room,
-        second,
-        from,
-        octets: 0,
-        long: false,
-    }
-}
-
-fn headed_two(slot: usize, call: Call, room: usize, second: usize, from: usize) -> Line
-    ensures { result ≡ headed_two slot call room second from }
-{
-    line_with(
-        slot, call, [0; 16], [0; 16], [0; 4], [0; 4], room, second, from,
-    )
-}
-
-fn headed(slot: usize, call: Call, room: usize, from: usize) -> Line
-    ensures { result ≡ headed slot call room from }
-{
-    headed_two(slot, call, room, 0, from)
-}
-
-fn plain(slot: usize, call: Call) -> Line
-    ensures { result ≡ plain slot call }
-{
-    headed(slot, call, 0, 0)
-}
-
-fn keyed(slot: usize, call: Call, integrity_key: [u8; 16], ciphering_key: [u8; 16]) -> Line
-    ensures { result ≡ line_with slot call integrity_key ciphering_key no4 no4 0 0 0 }
-{
-    line_with(
-        slot,
-        call,
-        integrity_key,
-        ciphering_key,
-        [0; 4],
-        [0; 4],
-        0,
-        0,
-        0,
-    )
-}
 
 pub fn bad() -> Line
     ensures { result ≡ bad }
 {
-    plain(0, Call::Bad)
+    Line::plain(0, Call::Bad)
+}
+
+// The line of a message that goes out, whose slot stands at a place.
+fn sealed(text: &[u8], at: usize, call: Call) -> Line
+    requires { at ≤ 8 }
+    ensures { result ≡ headed_two (number_at text.now at 1) call (number_at text.now (at + 9) 4) 0 (Some (at + 14)) }
+{
+    Line::headed(
+        form::slot(text, at),
+        call,
+        form::room(text, at + 9),
+        at + 14,
+    )
+}
+
+// The line of a message that comes in, whose slot stands at a place and the room of its second output at another.
+fn opened(text: &[u8], at: usize, second: usize, call: Call) -> Line
+    requires { (at ≤ 8) × (second ≤ 19) }
+    ensures { result ≡ headed_two (number_at text.now at 1) call (number_at text.now (at + 6) 4) (number_at text.now second 4) (Some (second + 5)) }
+{
+    let room = form::room(text, at + 6);
+    Line {
+        second: form::room(text, second),
+        ..Line::headed(form::slot(text, at), call, room, second + 5)
+    }
 }
 
 // Creation, reselection, window size.
@@ -86,12 +49,7 @@ fn change(text: &[u8]) -> Line
             integrity: form::octet(text, 6),
             ciphering: form::octet(text, 9),
         };
-        return keyed(
-            form::slot(text, 4),
-            call,
-            form::key(text, 12),
-            form::key(text, 45),
-        );
+        return Line::selected(text, 4, call);
     }
     if form::fits(
         b"reselect S XX XX XXXXXXXXXXXXXXXXXXXXXXXXXXXXXXXX XXXXXXXXXXXXXXXXXXXXXXXXXXXXXXXX",
@@ -101,15 +59,10 @@ fn change(text: &[u8]) -> Line
             integrity: form::octet(text, 11),
             ciphering: form::octet(text, 14),
         };
-        return keyed(
-            form::slot(text, 9),
-            call,
-            form::key(text, 17),
-            form::key(text, 50),
-        );
+        return Line::selected(text, 9, call);
     }
     if form::fits(b"window S XX", text) {
-        return plain(form::slot(text, 7), Call::Window(form::octet(text, 9)));
+        return Line::plain(form::slot(text, 7), Call::Window(form::octet(text, 9)));
     }
     container(text)
 }
@@ -119,10 +72,10 @@ fn container(text: &[u8]) -> Line
     ensures { result ≡ container_line text.now (state_line text.now (beyond_of text.now)) }
 {
     if form::fits(b"n1s1 S", text) {
-        return plain(form::slot(text, 5), Call::N1ToS1);
+        return Line::plain(form::slot(text, 5), Call::N1ToS1);
     }
     if form::fits(b"n1s1v S XX", text) {
-        return plain(
+        return Line::plain(
             form::slot(text, 6),
             Call::VerifyN1ToS1(form::octet(text, 8)),
         );
@@ -132,10 +85,13 @@ fn container(text: &[u8]) -> Line
             ncc: form::octet(text, 7),
             ngksi: form::octet(text, 10),
         };
-        return headed(form::slot(text, 5), call, form::room(text, 13), 0);
+        return Line {
+            room: form::room(text, 13),
+            ..Line::plain(form::slot(text, 5), call)
+        };
     }
     if form::begins(b"s1n1v S ", text) {
-        return headed(form::slot(text, 6), Call::VerifyS1ToN1, 0, 8);
+        return Line::headed(form::slot(text, 6), Call::VerifyS1ToN1, 0, 8);
     }
     state(text)
 }
@@ -157,7 +113,7 @@ fn state(text: &[u8]) -> Line
         return raw(text);
     }
     if form::fits(b"show S", text) {
-        return plain(form::slot(text, 5), Call::Show);
+        return Line::plain(form::slot(text, 5), Call::Show);
     }
     across(text)
 }
@@ -171,21 +127,14 @@ fn across(text: &[u8]) -> Line
             direction: form::digit(text, 9),
             connection: form::digit(text, 11),
         };
-        let room = form::room(text, 13);
-        return headed_two(form::slot(text, 7), call, room, room, 18);
+        return opened(text, 7, 13, call);
     }
     if form::begins(b"across2 S D C XXXX XXXX ", text) {
         let call = Call::Across {
             direction: form::digit(text, 10),
             connection: form::digit(text, 12),
         };
-        return headed_two(
-            form::slot(text, 8),
-            call,
-            form::room(text, 14),
-            form::room(text, 19),
-            24,
-        );
+        return opened(text, 8, 19, call);
     }
     in_place(text)
 }
@@ -200,31 +149,24 @@ fn in_place(text: &[u8]) -> Line
             direction: form::digit(text, 12),
             connection: form::digit(text, 14),
         };
-        return headed(form::slot(text, 7), call, form::room(text, 16), 21);
+        return sealed(text, 7, call);
     }
     if form::begins(b"openin S D C XXXX ", text) {
         let call = Call::OpenIn {
             direction: form::digit(text, 9),
             connection: form::digit(text, 11),
         };
-        let room = form::room(text, 13);
-        return headed_two(form::slot(text, 7), call, room, room, 18);
+        return opened(text, 7, 13, call);
     }
     if form::begins(b"open2in S D C XXXX XXXX ", text) {
         let call = Call::OpenIn {
             direction: form::digit(text, 10),
             connection: form::digit(text, 12),
         };
-        return headed_two(
-            form::slot(text, 8),
-            call,
-            form::room(text, 14),
-            form::room(text, 19),
-            24,
-        );
+        return opened(text, 8, 19, call);
     }
     if form::fits(b"windowin S XX", text) {
-        return plain(form::slot(text, 9), Call::WindowIn(form::octet(text, 11)));
+        return Line::plain(form::slot(text, 9), Call::WindowIn(form::octet(text, 11)));
     }
     bad()
 }
@@ -242,17 +184,10 @@ fn restore(text: &[u8]) -> Line
         form::count(text, 100),
         form::count(text, 109),
     ];
-    line_with(
-        form::slot(text, 8),
-        call,
-        form::key(text, 16),
-        form::key(text, 49),
+    Line {
         next,
-        [0; 4],
-        0,
-        0,
-        0,
-    )
+        ..Line::selected(text, 8, call)
+    }
 }
 
 fn raw(text: &[u8]) -> Line
@@ -275,17 +210,11 @@ fn raw(text: &[u8]) -> Line
         form::bits(text, 142),
         form::bits(text, 168),
     ];
-    line_with(
-        form::slot(text, 4),
-        call,
-        form::key(text, 12),
-        form::key(text, 45),
+    Line {
         next,
         bits,
-        0,
-        0,
-        0,
-    )
+        ..Line::selected(text, 4, call)
+    }
 }
 
 // EPS messages.
@@ -293,10 +222,10 @@ fn eps(text: &[u8]) -> Line
     ensures { result ≡ eps_line text.now (rest_of text.now) }
 {
     if form::begins(b"epsseal S XXXX ", text) {
-        return headed(form::slot(text, 8), Call::EpsSeal, form::room(text, 10), 15);
+        return Line::headed(form::slot(text, 8), Call::EpsSeal, form::room(text, 10), 15);
     }
     if form::begins(b"epsopen S XXXX ", text) {
-        return headed(form::slot(text, 8), Call::EpsOpen, form::room(text, 10), 15);
+        return Line::headed(form::slot(text, 8), Call::EpsOpen, form::room(text, 10), 15);
     }
     change(text)
 }
@@ -310,21 +239,14 @@ fn opening(text: &[u8]) -> Line
             direction: form::digit(text, 7),
             connection: form::digit(text, 9),
         };
-        let room = form::room(text, 11);
-        return headed_two(form::slot(text, 5), call, room, room, 16);
+        return opened(text, 5, 11, call);
     }
     if form::begins(b"open2 S D C XXXX XXXX ", text) {
         let call = Call::Open {
             direction: form::digit(text, 8),
             connection: form::digit(text, 10),
         };
-        return headed_two(
-            form::slot(text, 6),
-            call,
-            form::room(text, 12),
-            form::room(text, 17),
-            22,
-        );
+        return opened(text, 6, 17, call);
     }
     eps(text)
 }
@@ -339,7 +261,7 @@ pub fn head(text: &[u8]) -> Line
             direction: form::digit(text, 10),
             connection: form::digit(text, 12),
         };
-        return headed(form::slot(text, 5), call, form::room(text, 14), 19);
+        return sealed(text, 5, call);
     }
     if form::begins(b"opaque S XX D C XXXX ", text) {
         let call = Call::Opaque {
@@ -347,11 +269,11 @@ pub fn head(text: &[u8]) -> Line
             direction: form::digit(text, 12),
             connection: form::digit(text, 14),
         };
-        return headed(form::slot(text, 7), call, form::room(text, 16), 21);
+        return sealed(text, 7, call);
     }
     if form::begins(b"initial S C XXXX ", text) {
         let call = Call::Initial(form::digit(text, 10));
-        return headed(form::slot(text, 8), call, form::room(text, 12), 17);
+        return Line::headed(form::slot(text, 8), call, form::room(text, 12), 17);
     }
     opening(text)
 }

@@ -1,13 +1,13 @@
-use borrow.Author.Tests.{eq-eqb, ne_eqb}
+use mathlib.Core.Path.{sym, ◌∙◌}
 use Rattle.hex_input.specs.Read.{ended}
 use Rattle.hex_input.proofs.with_octets.Goals as goal
 
-pub returns-then-line-eq0 : goal.returns-then-line-eq0
+pub returns-then-is_some : goal.returns-then-is_some
 unfolding ended
-returns-then-line-eq0 c =
-    rw (eq-eqb _ _ c.if-line-eq0.true)
+returns-then-is_some g c =
+    rw (sym c.is_some.ensures ∙ c.if-is_some.true, c.octets_in.ensures)
 
-pub returns : goal.returns
+pub returns-else-is_some : goal.returns-else-is_some
 unfolding ended
-returns c =
-    rw (ne_eqb _ _ c.if-line-eq0.false)
+returns-else-is_some g c =
+    rw (sym c.is_some.ensures ∙ c.if-is_some.false)

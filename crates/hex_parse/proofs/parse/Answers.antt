@@ -1,10 +1,7 @@
-use Rattle.hex_parse.proofs.Laws as laws
+use Rattle.hex_parse.specs.Lines.{line_of, octets_in}
 use Rattle.hex_parse.proofs.parse.Goals as goal
 
-pub returns-then-from-eq0 : goal.returns-then-from-eq0
-returns-then-from-eq0 c =
-    laws.without _ _ _ c.head-line.ensures c.if-from-eq0.true
-
 pub returns : goal.returns
+unfolding line_of octets_in
 returns c =
-    laws.ended c.args.text.now _ _ c.head-line.ensures _ _ _ c.if-from-eq0.false c.after.ensures c.with_octets.ensures.0 c.with_octets.ensures.1
+    rw (← c.head.ensures, ← c.bad.ensures) c.ended.ensures

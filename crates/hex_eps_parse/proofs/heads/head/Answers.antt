@@ -15,7 +15,7 @@ returns-then-begins-2 c =
 pub returns-then-fits : goal.returns-then-fits
 unfolding head_of message_line
 returns-then-fits c =
-    simp (c.headed-then-fits.ensures, c.room-then-fits.ensures, c.slot-then-fits.ensures, c.octet-then-fits.ensures, sym c.fits.ensures ∙ c.if-fits.true, sym c.begins-2.ensures ∙ c.if-begins-2.false, sym c.begins.ensures ∙ c.if-begins.false)
+    simp (c.plain.ensures, c.room-then-fits.ensures, c.slot-then-fits.ensures, c.octet-then-fits.ensures, sym c.fits.ensures ∙ c.if-fits.true, sym c.begins-2.ensures ∙ c.if-begins-2.false, sym c.begins.ensures ∙ c.if-begins.false)
 
 pub returns : goal.returns
 unfolding head_of message_line

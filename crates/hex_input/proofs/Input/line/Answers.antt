@@ -2,8 +2,7 @@ use Prim.Native.Nat.{ℕ}
 use mathlib.Core.Path.{ap, ◌∙◌}
 use mathlib.Core.List.{List}
 use lib.ListN.{length}
-use Rattle.hex_parse.specs.Lines.{line_of}
-use Rattle.hex_parse.specs.declared.Line.{Line}
+use Rattle.hex_parse.specs.Lines.{Line, line_of}
 use Rattle.hex_input.specs.Read.{ended}
 use Rattle.hex_input.proofs.Input.line.Goals as goal
 

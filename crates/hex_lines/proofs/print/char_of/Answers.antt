@@ -1,14 +1,14 @@
+use native.Mathlib.Omega.{arith}
 use borrow.Author.Tests.{lt-ltb, le-ltb}
-use borrow.Author.Rules.{rules}
 use Rattle.hex_lines.specs.Hex.{char_of}
 use Rattle.hex_lines.proofs.print.char_of.Goals as goal
 
 pub returns-then-n-lt10 : goal.returns-then-n-lt10
 unfolding char_of
 returns-then-n-lt10 c =
-    search (rules, lt-ltb, le-ltb)
+    rw (lt-ltb _ 10 c.if-n-lt10.true) (omega arith)
 
-pub returns : goal.returns
+pub returns-else-n-lt10 : goal.returns-else-n-lt10
 unfolding char_of
-returns c =
-    search (rules, lt-ltb, le-ltb)
+returns-else-n-lt10 c =
+    rw (le-ltb _ 10 c.if-n-lt10.false) (omega arith)

@@ -15,7 +15,7 @@ loop-i-init c =
 
 pub char_of-requires : goal.char_of-requires
 char_of-requires c =
-    omega (arith, c.shared_slice_known-in-loop-i-1.given c.loop-i.i)
+    omega arith
 
 pub bounds-out-j : goal.bounds-out-j
 bounds-out-j c =

@@ -1,24 +1,24 @@
+use mathlib.Core.Path.{◌∙◌}
 use native.Mathlib.Omega.{arith}
-use borrow.Author.Rules.{rules}
 use Rattle.hex_lines.proofs.Laws as laws
 use Rattle.hex_lines.proofs.read.digit.Goals as goal
 
-pub returns-then-c-lt48 : goal.returns-then-c-lt48
-returns-then-c-lt48 c =
-    (laws.no_value _ (laws.below _ c.if-c-lt48.true), search rules)
+pub returns-in-48-to-57 : goal.returns-in-48-to-57
+returns-in-48-to-57 c =
+    (laws.decimal-value _ (omega arith) (omega arith), omega arith)
 
-pub returns-then-c-le57 : goal.returns-then-c-le57
-returns-then-c-le57 c =
-    (laws.decimal-value _ c.if-c-lt48.false c.if-c-le57.true, omega arith)
+pub returns-in-97-to-102 : goal.returns-in-97-to-102
+returns-in-97-to-102 c =
+    (omega arith ∙ laws.letter-value _ (omega arith) (omega arith), omega arith)
 
-pub returns-then-c-lt97 : goal.returns-then-c-lt97
-returns-then-c-lt97 c =
-    (laws.no_value _ (laws.between _ c.if-c-le57.false c.if-c-lt97.true), search rules)
+pub returns-in_default : goal.returns-in_default
+returns-in_default c =
+    (laws.no_value _ (laws.below _ (omega arith)), omega arith)
 
-pub returns-then-c-le102 : goal.returns-then-c-le102
-returns-then-c-le102 c =
-    (laws.letter-value _ c.if-c-lt97.false c.if-c-le102.true, omega arith)
+pub returns-in_default-2 : goal.returns-in_default-2
+returns-in_default-2 c =
+    (laws.no_value _ (laws.between _ (omega arith) (omega arith)), omega arith)
 
-pub returns : goal.returns
-returns c =
-    (laws.no_value _ (laws.above _ c.if-c-le102.false), search rules)
+pub returns-in_default-3 : goal.returns-in_default-3
+returns-in_default-3 c =
+    (laws.no_value _ (laws.above _ (omega arith)), omega arith)

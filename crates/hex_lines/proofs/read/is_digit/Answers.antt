@@ -1,19 +1,24 @@
 use mathlib.Core.Path.{sym}
+use native.Mathlib.Omega.{arith}
 use Rattle.hex_lines.proofs.Laws as laws
 use Rattle.hex_lines.proofs.read.is_digit.Goals as goal
 
-pub returns-then-c-lt48 : goal.returns-then-c-lt48
-returns-then-c-lt48 c =
-    sym (laws.below _ c.if-c-lt48.true)
+pub returns-in-48-to-57 : goal.returns-in-48-to-57
+returns-in-48-to-57 c =
+    sym (laws.decimal _ (omega arith) (omega arith))
 
-pub returns-then-c-le57 : goal.returns-then-c-le57
-returns-then-c-le57 c =
-    sym (laws.decimal _ c.if-c-lt48.false c.if-c-le57.true)
+pub returns-in-48-to-57-2 : goal.returns-in-48-to-57-2
+returns-in-48-to-57-2 c =
+    sym (laws.letter _ (omega arith) (omega arith))
 
-pub returns-then-c-lt97 : goal.returns-then-c-lt97
-returns-then-c-lt97 c =
-    sym (laws.between _ c.if-c-le57.false c.if-c-lt97.true)
+pub returns-in_default : goal.returns-in_default
+returns-in_default c =
+    sym (laws.below _ (omega arith))
 
-pub returns : goal.returns
-returns c =
-    laws.upper _ c.if-c-lt97.false
+pub returns-in_default-2 : goal.returns-in_default-2
+returns-in_default-2 c =
+    sym (laws.between _ (omega arith) (omega arith))
+
+pub returns-in_default-3 : goal.returns-in_default-3
+returns-in_default-3 c =
+    sym (laws.above _ (omega arith))

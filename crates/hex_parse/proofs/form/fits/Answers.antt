@@ -5,9 +5,9 @@ use Rattle.hex_parse.proofs.form.fits.Goals as goal
 pub returns-then-text-form : goal.returns-then-text-form
 unfolding fits
 returns-then-text-form c =
-    rw (ne_eqb _ _ c.if-text-form.true)
+    rw (eq-eqb _ _ c.if-text-form.true) c.begins.ensures
 
-pub returns : goal.returns
+pub returns-else-text-form : goal.returns-else-text-form
 unfolding fits
-returns c =
-    rw (eq-eqb _ _ c.if-text-form.false) c.begins.ensures
+returns-else-text-form c =
+    rw (ne_eqb _ _ c.if-text-form.false)

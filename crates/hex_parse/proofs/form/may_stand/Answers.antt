@@ -1,29 +1,29 @@
-use borrow.Author.Tests.{eq-eqb, ne_eqb}
+use borrow.Author.Tests.{ne_eqb}
 use Rattle.hex_parse.specs.Form.{may_stand}
 use borrow.Author.Rules.{rules}
 use Rattle.hex_parse.proofs.form.may_stand.Goals as goal
 
-pub returns-then-place-eq88 : goal.returns-then-place-eq88
+pub returns-in-88 : goal.returns-in-88
 unfolding may_stand
-returns-then-place-eq88 c =
-    search (rules, eq-eqb)
+returns-in-88 c =
+    rw c.in-88.is c.is_digit.ensures
 
-pub returns-then-place-eq83 : goal.returns-then-place-eq83
+pub returns-in-83 : goal.returns-in-83
 unfolding may_stand
-returns-then-place-eq83 c =
-    search (rules, eq-eqb, ne_eqb)
+returns-in-83 c =
+    rw c.in-83.is c.is_between.ensures
 
-pub returns-then-place-eq68 : goal.returns-then-place-eq68
+pub returns-in-68 : goal.returns-in-68
 unfolding may_stand
-returns-then-place-eq68 c =
-    search (rules, eq-eqb, ne_eqb)
+returns-in-68 c =
+    rw c.in-68.is c.is_between-in-68.ensures
 
-pub returns-then-place-eq67 : goal.returns-then-place-eq67
+pub returns-in-67 : goal.returns-in-67
 unfolding may_stand
-returns-then-place-eq67 c =
-    search (rules, eq-eqb, ne_eqb)
+returns-in-67 c =
+    rw c.in-67.is c.is_between-in-67.ensures
 
-pub returns : goal.returns
+pub returns-in_default : goal.returns-in_default
 unfolding may_stand
-returns c =
+returns-in_default c =
     search (rules, ne_eqb)

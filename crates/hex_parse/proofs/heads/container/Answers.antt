@@ -15,12 +15,12 @@ returns-then-fits-2 c =
 pub returns-then-fits-3 : goal.returns-then-fits-3
 unfolding container_line
 returns-then-fits-3 c =
-    simp (c.headed.ensures, c.room.ensures, c.slot-then-fits-3.ensures, c.octet-then-fits-3-2.ensures, c.octet-then-fits-3.ensures, sym c.fits-3.ensures ∙ c.if-fits-3.true, sym c.fits-2.ensures ∙ c.if-fits-2.false, sym c.fits.ensures ∙ c.if-fits.false)
+    simp (c.plain-then-fits-3.ensures, c.room.ensures, c.slot-then-fits-3.ensures, c.octet-then-fits-3-2.ensures, c.octet-then-fits-3.ensures, sym c.fits-3.ensures ∙ c.if-fits-3.true, sym c.fits-2.ensures ∙ c.if-fits-2.false, sym c.fits.ensures ∙ c.if-fits.false)
 
 pub returns-then-begins : goal.returns-then-begins
 unfolding container_line
 returns-then-begins c =
-    simp (c.headed-then-begins.ensures, c.slot-then-begins.ensures, sym c.begins.ensures ∙ c.if-begins.true, sym c.fits-3.ensures ∙ c.if-fits-3.false, sym c.fits-2.ensures ∙ c.if-fits-2.false, sym c.fits.ensures ∙ c.if-fits.false)
+    simp (c.headed.ensures, c.slot-then-begins.ensures, sym c.begins.ensures ∙ c.if-begins.true, sym c.fits-3.ensures ∙ c.if-fits-3.false, sym c.fits-2.ensures ∙ c.if-fits-2.false, sym c.fits.ensures ∙ c.if-fits.false)
 
 pub returns : goal.returns
 unfolding container_line

@@ -5,12 +5,12 @@ use Rattle.hex_parse.proofs.heads.opening.Goals as goal
 pub returns-then-begins : goal.returns-then-begins
 unfolding open_line
 returns-then-begins c =
-    simp (c.headed_two.ensures, c.slot.ensures, c.room-room.ensures, c.digit-then-begins.ensures, c.digit.ensures, sym c.begins.ensures ∙ c.if-begins.true)
+    simp (c.opened.ensures, c.digit-then-begins.ensures, c.digit.ensures, sym c.begins.ensures ∙ c.if-begins.true)
 
 pub returns-then-begins-2 : goal.returns-then-begins-2
 unfolding open_line
 returns-then-begins-2 c =
-    simp (c.headed_two-then-begins-2.ensures, c.room-then-begins-2.ensures, c.room.ensures, c.slot-then-begins-2.ensures, c.digit-then-begins-2-2.ensures, c.digit-then-begins-2.ensures, sym c.begins-2.ensures ∙ c.if-begins-2.true, sym c.begins.ensures ∙ c.if-begins.false)
+    simp (c.opened-then-begins-2.ensures, c.digit-then-begins-2-2.ensures, c.digit-then-begins-2.ensures, sym c.begins-2.ensures ∙ c.if-begins-2.true, sym c.begins.ensures ∙ c.if-begins.false)
 
 pub returns : goal.returns
 unfolding open_line

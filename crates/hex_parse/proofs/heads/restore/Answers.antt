@@ -4,4 +4,4 @@ use Rattle.hex_parse.proofs.heads.restore.Goals as goal
 pub returns : goal.returns
 unfolding restore_line
 returns c =
-    simp (c.line_with.ensures, c.key-2.ensures, c.key.ensures, c.slot.ensures, c.count-4.ensures, c.count-3.ensures, c.count-2.ensures, c.count.ensures, c.octet-2.ensures, c.octet.ensures)
+    simp (c.selected.ensures, c.count-4.ensures, c.count-3.ensures, c.count-2.ensures, c.count.ensures, c.octet-2.ensures, c.octet.ensures)

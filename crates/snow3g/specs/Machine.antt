@@ -1,7 +1,7 @@
 -- Document 2 (TS 35.216) 3.4: the shift register of sixteen words s and the state machine of three words r1, r2, r3.
 -- Assumes nothing.
-use Rattle.std.specs.Prelude.{ℕ, ◌+◌, ◌*◌, ◌/◌, ◌%◌, ◌^◌, List, [], ◌∷◌, ◌++◌, map, bit_xor, slice_index}
-use Rattle.aes.specs.Octets.{up_from}
+use Rattle.std.specs.Prelude.{ℕ, ◌+◌, ◌*◌, ◌/◌, ◌%◌, ◌^◌, bit_xor, slice_index}
+use Rattle.streams.specs.Words.{shifted}
 use Rattle.snow3g.specs.declared.State.{State}
 use Rattle.snow3g.specs.Words.{octet0, octet3}
 use Rattle.snow3g.specs.Field.{mul_alpha, div_alpha}
@@ -18,10 +18,6 @@ feedback s0 s2 s11 f =
     (bit_xor (bit_xor (bit_xor (bit_xor (s0 * 2 ^ 8 % 2 ^ 32) (mul_alpha (octet0 s0))) s2) (s11 / 2 ^ 8)) (div_alpha (octet3 s11)))
     f
 
--- s1 .. s15 and v take the places of s0 .. s15
-unfoldable pub shift : List ℕ → ℕ → List ℕ
-shift s v = map (λ i. slice_index s i) (up_from 1 15) ++ (v ∷ [])
-
 -- 3.4.6: F, the output of the state machine
 unfoldable pub output : State → ℕ
 output m = bit_xor ((at m 15 + m.r1) % 2 ^ 32) m.r2
@@ -30,7 +26,7 @@ output m = bit_xor ((at m 15 + m.r1) % 2 ^ 32) m.r2
 unfoldable pub clock : State → ℕ → State
 clock m f =
     record {
-      s = shift m.s (feedback (at m 0) (at m 2) (at m 11) f);
+      s = shifted m.s (feedback (at m 0) (at m 2) (at m 11) f);
       r1 = (m.r2 + bit_xor m.r3 (at m 5)) % 2 ^ 32;
       r2 = s1 m.r1;
       r3 = s2 m.r2;

@@ -1,8 +1,9 @@
 -- The tables that the code works with; no part of the specification.
 -- Assumes nothing.
-use Rattle.std.specs.Prelude.{◌≡◌, ℕ, ◌+◌, ◌*◌, ◌/◌, ◌%◌, ◌^◌, List, map, bit_xor, slice_index}
+use Rattle.std.specs.Prelude.{ℕ, List, map, bit_xor, slice_index}
 use Rattle.aes.specs.Octets.{below}
 use Rattle.snow3g.specs.Words.{word, octet0, octet1, octet2, octet3, xor4}
+use Rattle.streams.specs.Words.{turned}
 use Rattle.streams.specs.Field.{mulx}
 use Rattle.snow3g.specs.Field.{mul_alpha, div_alpha}
 use Rattle.snow3g.specs.Boxes.{sr, sq}
@@ -24,27 +25,14 @@ mul_table = map mul_alpha (below 256)
 unfoldable pub div_table : List ℕ
 div_table = map div_alpha (below 256)
 
--- the four tables, as they are lent
-abbrev pub Lent : List ℕ → List ℕ → List ℕ → List ℕ → Type 0
-Lent t1 t2 mul div = (t1 ≡ s1_table) × (t2 ≡ s2_table) × (mul ≡ mul_table) × (div ≡ div_table)
-
--- a word turned right by one, two and three octets
-unfoldable pub turn8 : ℕ → ℕ
-turn8 x = x / 2 ^ 8 + x % 2 ^ 8 * 2 ^ 24
-
-unfoldable pub turn16 : ℕ → ℕ
-turn16 x = x / 2 ^ 16 + x % 2 ^ 16 * 2 ^ 16
-
-unfoldable pub turn24 : ℕ → ℕ
-turn24 x = x / 2 ^ 24 + x % 2 ^ 24 * 2 ^ 8
-
--- what the four octets of a word add, together
-unfoldable pub joined : ℕ → ℕ → ℕ → ℕ → ℕ
-joined a b c d = xor4 a (turn8 b) (turn16 c) (turn24 d)
-
--- a box on words, by the table t of what one octet adds
+-- a box on words, by the table t of what one octet adds: what the next ones add is turned right by one, two and three octets
 abbrev pub by_table : List ℕ → ℕ → ℕ
-by_table t w = joined (slice_index t (octet0 w)) (slice_index t (octet1 w)) (slice_index t (octet2 w)) (slice_index t (octet3 w))
+by_table t w =
+    xor4
+    (slice_index t (octet0 w))
+    (turned (slice_index t (octet1 w)) 24)
+    (turned (slice_index t (octet2 w)) 16)
+    (turned (slice_index t (octet3 w)) 8)
 
 -- four times by x in 64 bits
 unfoldable pub x4 : ℕ → ℕ

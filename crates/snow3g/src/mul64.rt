@@ -22,7 +22,7 @@ fn shift4(u: u64) -> u64
 }
 
 // The products of p with 0 .. 15.
-pub fn multiples(p: u64) -> [u64; 16]
+fn multiples(p: u64) -> [u64; 16]
     ensures { result ≡ multiples_of p }
 {
     let a = mul64x(p);
@@ -49,18 +49,33 @@ pub fn multiples(p: u64) -> [u64; 16]
     ]
 }
 
-// MUL64, by four bits of v at a time; table has the products of p.
-pub fn product(table: &[u64; 16], p: u64, v: u64) -> u64
-    requires { table.now ≡ multiples_of p }
-    ensures { result ≡ mul64_of v p 0x1B }
-{
-    let mut sum: u64 = 0;
-    let mut left: usize = 16;
-    while 0 < left {
-        left -= 1;
-        let n = (v >> (left * 4)) % 16;
-        let next = shift4(sum) ^ table[n as usize];
-        sum = next;
+// A factor with its products with 0 .. 15.
+#[derive(Clone, Copy)]
+pub struct Factor {
+    p: u64,
+    products: [u64; 16],
+    ghost known: { products ≡ multiples_of p },
+}
+
+impl Factor {
+    pub fn of(p: u64) -> Factor
+        ensures { result.p ≡ p }
+    {
+        Factor {
+            p,
+            products: multiples(p),
+        }
     }
-    sum
+
+    // MUL64, by four bits of v at a time.
+    pub fn times(&self, v: u64) -> u64
+        ensures { result ≡ mul64_of v self.now.p 0x1B }
+    {
+        let mut sum: u64 = 0;
+        for turn in 0..16_usize {
+            let n = (v >> (60 - turn * 4)) % 16;
+            sum = shift4(sum) ^ self.products[n as usize];
+        }
+        sum
+    }
 }

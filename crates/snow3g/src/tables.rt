@@ -1,9 +1,6 @@
 // The tables: what an octet of a word adds to it under S1 and S2, and MULα and DIVα.
-// They are written to the stack where they are named: once for a message, and lent to what works on it.
-ghost use Rattle.std.specs.Prelude.{◌≡◌};
-ghost use Rattle.snow3g.specs.Tables.{s1_table, s2_table, mul_table, div_table};
 
-const S1: [u32; 256] = [
+pub static S1: [u32; 256] = [
     0xc6a56363, 0xf8847c7c, 0xee997777, 0xf68d7b7b, 0xff0df2f2, 0xd6bd6b6b, 0xdeb16f6f, 0x9154c5c5,
     0x60503030, 0x02030101, 0xcea96767, 0x567d2b2b, 0xe719fefe, 0xb562d7d7, 0x4de6abab, 0xec9a7676,
     0x8f45caca, 0x1f9d8282, 0x8940c9c9, 0xfa877d7d, 0xef15fafa, 0xb2eb5959, 0x8ec94747, 0xfb0bf0f0,
@@ -38,7 +35,7 @@ const S1: [u32; 256] = [
     0x82c34141, 0x29b09999, 0x5a772d2d, 0x1e110f0f, 0x7bcbb0b0, 0xa8fc5454, 0x6dd6bbbb, 0x2c3a1616,
 ];
 
-const S2: [u32; 256] = [
+pub static S2: [u32; 256] = [
     0x4a6f2525, 0x486c2424, 0xe6957373, 0xcea96767, 0xc710d7d7, 0x359baeae, 0xb8e45c5c, 0x60503030,
     0x2185a4a4, 0xb55beeee, 0xdcb26e6e, 0xff34cbcb, 0xfa877d7d, 0x03b6b5b5, 0x6def8282, 0xdf04dbdb,
     0xa145e4e4, 0x75fb8e8e, 0x90d84848, 0x92db4949, 0x9ed14f4f, 0xbae75d5d, 0xd4be6a6a, 0xf0887878,
@@ -73,7 +70,7 @@ const S2: [u32; 256] = [
     0x49d99090, 0x322b1919, 0x3991a8a8, 0xd8b46c6c, 0x121b0909, 0xc919d0d0, 0x8979f0f0, 0x65e38686,
 ];
 
-const MUL: [u32; 256] = [
+pub static MUL: [u32; 256] = [
     0x00000000, 0xe19fcf13, 0x6b973726, 0x8a08f835, 0xd6876e4c, 0x3718a15f, 0xbd10596a, 0x5c8f9679,
     0x05a7dc98, 0xe438138b, 0x6e30ebbe, 0x8faf24ad, 0xd320b2d4, 0x32bf7dc7, 0xb8b785f2, 0x59284ae1,
     0x0ae71199, 0xeb78de8a, 0x617026bf, 0x80efe9ac, 0xdc607fd5, 0x3dffb0c6, 0xb7f748f3, 0x566887e0,
@@ -108,7 +105,7 @@ const MUL: [u32; 256] = [
     0x63dc2392, 0x8243ec81, 0x084b14b4, 0xe9d4dba7, 0xb55b4dde, 0x54c482cd, 0xdecc7af8, 0x3f53b5eb,
 ];
 
-const DIV: [u32; 256] = [
+pub static DIV: [u32; 256] = [
     0x00000000, 0x180f40cd, 0x301e8033, 0x2811c0fe, 0x603ca966, 0x7833e9ab, 0x50222955, 0x482d6998,
     0xc078fbcc, 0xd877bb01, 0xf0667bff, 0xe8693b32, 0xa04452aa, 0xb84b1267, 0x905ad299, 0x88559254,
     0x29f05f31, 0x31ff1ffc, 0x19eedf02, 0x01e19fcf, 0x49ccf657, 0x51c3b69a, 0x79d27664, 0x61dd36a9,
@@ -142,27 +139,3 @@ const DIV: [u32; 256] = [
     0x3ea637b6, 0x26a9777b, 0x0eb8b785, 0x16b7f748, 0x5e9a9ed0, 0x4695de1d, 0x6e841ee3, 0x768b5e2e,
     0xfedecc7a, 0xe6d18cb7, 0xcec04c49, 0xd6cf0c84, 0x9ee2651c, 0x86ed25d1, 0xaefce52f, 0xb6f3a5e2,
 ];
-
-pub fn s1_table() -> [u32; 256]
-    ensures { result ≡ s1_table }
-{
-    S1
-}
-
-pub fn s2_table() -> [u32; 256]
-    ensures { result ≡ s2_table }
-{
-    S2
-}
-
-pub fn mul_table() -> [u32; 256]
-    ensures { result ≡ mul_table }
-{
-    MUL
-}
-
-pub fn div_table() -> [u32; 256]
-    ensures { result ≡ div_table }
-{
-    DIV
-}

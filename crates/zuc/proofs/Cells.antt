@@ -7,6 +7,7 @@ use borrow.Author.Tests.{eqb-false}
 use Rattle.aes.specs.Octets.{up_from}
 use Rattle.aes.specs.Laws.{Octets}
 use Rattle.aes.proofs.Tables.{from, table_at, same-table}
+use Rattle.streams.specs.Words.{shifted}
 use Rattle.streams.specs.Stream.{after}
 use Rattle.zuc.specs.declared.State.{State}
 use Rattle.zuc.specs.Register.{p, cell, shift, feedback}
@@ -29,13 +30,13 @@ cell-range v = go (eqb (v % p) 0) (eqb-false (v % p) 0)
     go false e = (zero-or-more (v % p) (e refl), omega (arith, mod-lt v {m = p} (lit< tt)))
 
 shift-at : (u : ℕ) (s : List ℕ) (i : ℕ) → i < 15 → get_or (shift u s) i 0 ≡ get_or s (1 + i) 0
-unfolding shift
+unfolding shift shifted
 shift-at u s i h =
     let a = map (λ k. get_or s k 0) (up_from 1 15) in
     get_or-append a (cell (feedback s + u) ∷ []) 0 i h ∙ from (λ k. get_or s k 0) 1 15 i h
 
 shift-last : (u : ℕ) (s : List ℕ) → get_or (shift u s) 15 0 ≡ cell (feedback s + u)
-unfolding shift
+unfolding shift shifted
 shift-last u s = refl
 
 shift-cells : (u : ℕ) (s : List ℕ) → Cells s → Cells (shift u s)

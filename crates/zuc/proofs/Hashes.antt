@@ -1,6 +1,6 @@
 -- Laws for the code: eight bits of the message at a time, and the end.
 -- Assumes nothing.
-use Rattle.std.proofs.Common.{◌≡◌, ℕ, zero, suc, ◌+◌, ◌-◌, ◌*◌, ◌/◌, ◌%◌, ◌^◌, ◌<◌, ◌≤◌, List, length, get_or, sym, refl, ap, ◌∙◌, ap₂, add-zero, add-suc, mod-lt, mod-eq_of_lt, div-one, add-one, arith, lit<, shr-shr, eq-eqb, ne_eqb}
+use Rattle.std.proofs.Common.{◌≡◌, ℕ, zero, suc, ◌+◌, ◌-◌, ◌*◌, ◌/◌, ◌%◌, ◌^◌, ◌<◌, ◌≤◌, List, length, get_or, take, drop, length-take, length-drop, get_or-take, get_or-drop, sym, refl, ap, ◌∙◌, ap₂, add-zero, add-suc, mod-lt, mod-eq_of_lt, div-one, add-one, arith, lit<, lit≤, shr-shr, eq-eqb, ne_eqb}
 use native.Mathlib.Decide.{ℕ_discrete}
 use lib.Bits.{bit_xor, xor_lt}
 use Rattle.streams.specs.Stream.{after, words}
@@ -10,7 +10,7 @@ use Rattle.zuc.specs.declared.Window.{Window}
 use Rattle.zuc.specs.Nonlinear.{w, x0, x3}
 use Rattle.zuc.specs.Keystream.{work, word}
 use Rattle.zuc.specs.Integrity.{bit_at, word_at, hash, word_count, code_of}
-use Rattle.zuc.specs.Windows.{window_at, pair, last_word, eight_bits, hash_part}
+use Rattle.zuc.specs.Windows.{window_at, pair, last_word, some_bits, hash_part}
 use Rattle.zuc.proofs.Walk.{moved_by, windows}
 use Rattle.zuc.proofs.Strings.{both, bits-high, word-at}
 
@@ -42,37 +42,35 @@ module _ (zs m : List ℕ) where
       ap₂ (λ (x y : ℕ). both zs x / 2 ^ y % 2 ^ 32) a b ∙
       ap (λ (x : ℕ). x % 2 ^ 32) (sym (shr-shr (both zs (q / 4)) (24 - q % 4 * 8) (8 - r)))))
 
-  eight : (q : ℕ) → get_or zs (q / 4 + 1) 0 < 2 ^ 32
-      → eight_bits (hash zs m (q * 8)) (both zs (q / 4) / 2 ^ (24 - q % 4 * 8)) (get_or m q 0) ≡ hash zs m (suc q * 8)
-  unfolding hash eight_bits
-  eight q h =
-      let n = q * 8 in
-      let e : suc q * 8 ≡ suc (suc (suc (suc (suc (suc (suc (suc n))))))) = omega arith in
-      let p0 = one_bit q 0 n (omega arith) (lit< tt) h in
-      let p1 = one_bit q 1 (suc n) (omega arith) (lit< tt) h in
-      let p2 = one_bit q 2 (suc (suc n)) (omega arith) (lit< tt) h in
-      let p3 = one_bit q 3 (suc (suc (suc n))) (omega arith) (lit< tt) h in
-      let p4 = one_bit q 4 (suc (suc (suc (suc n)))) (omega arith) (lit< tt) h in
-      let p5 = one_bit q 5 (suc (suc (suc (suc (suc n))))) (omega arith) (lit< tt) h in
-      let p6 = one_bit q 6 (suc (suc (suc (suc (suc (suc n)))))) (omega arith) (lit< tt) h in
-      let p7 = one_bit q 7 (suc (suc (suc (suc (suc (suc (suc n))))))) (omega arith) (lit< tt) h in
-      rw e
-      (λ t. bit_xor (bit_xor (bit_xor (bit_xor (bit_xor (bit_xor (bit_xor (bit_xor (hash zs m n) (p0 t)) (p1 t)) (p2 t)) (p3 t)) (p4 t)) (p5 t)) (p6 t)) (p7 t))
+  some : (q : ℕ) → get_or zs (q / 4 + 1) 0 < 2 ^ 32 → (n : ℕ) → n ≤ 8
+      → some_bits (hash zs m (q * 8)) (both zs (q / 4) / 2 ^ (24 - q % 4 * 8)) (get_or m q 0) n ≡ hash zs m (q * 8 + n)
+  unfolding some_bits hash
+  some q h zero p = rw (add-zero (q * 8))
+  some q h (suc n) p = rw (add-suc (q * 8) n) (ap₂ bit_xor (some q h n (omega arith)) (one_bit q n (q * 8 + n) refl (omega arith) h))
 
 -- T after i octets, from the windows
 unfoldable pub hash_by : Window → List ℕ → ℕ → ℕ
 hash_by v m zero = 0
-hash_by v m (suc i) = eight_bits (hash_by v m i) (pair (moved_by (i / 4) v) / 2 ^ (24 - i % 4 * 8)) (get_or m i 0)
+hash_by v m (suc i) = some_bits (hash_by v m i) (pair (moved_by (i / 4) v) / 2 ^ (24 - i % 4 * 8)) (get_or m i 0) 8
 
 -- n octets of a word
-pub hash-part : (v₀ : Window) (m : List ℕ) (t : ℕ) (v : Window) (a : ℕ) → t ≡ hash_by v₀ m (a * 4) → v ≡ moved_by a v₀ → (n : ℕ) → n ≤ 4
-    → hash_part t v m (a * 4) n ≡ hash_by v₀ m (a * 4 + n)
+hash-part : (v₀ : Window) (m part : List ℕ) (t : ℕ) (v : Window) (a : ℕ) → ((j : ℕ) → j < length part → get_or part j 0 ≡ get_or m (a * 4 + j) 0)
+    → t ≡ hash_by v₀ m (a * 4) → v ≡ moved_by a v₀ → (n : ℕ) → n ≤ 4 → n ≤ length part → hash_part t v part n ≡ hash_by v₀ m (a * 4 + n)
 unfolding hash_part hash_by
-hash-part v₀ m t v a e f zero p = rw (add-zero (a * 4)) e
-hash-part v₀ m t v a e f (suc n) p =
+hash-part v₀ m part t v a k e f zero p q = rw (add-zero (a * 4)) e
+hash-part v₀ m part t v a k e f (suc n) p q =
     let d : (a * 4 + n) / 4 ≡ a = omega arith in
-    let ih : hash_part t v m (a * 4) n ≡ hash_by v₀ m (a * 4 + n) = hash-part v₀ m t v a e f n (omega arith) in
-    rw (add-suc (a * 4) n, d, ih, f)
+    let r : (a * 4 + n) % 4 ≡ n = omega arith in
+    let ih : hash_part t v part n ≡ hash_by v₀ m (a * 4 + n) = hash-part v₀ m part t v a k e f n (omega arith) (omega arith) in
+    rw (add-suc (a * 4) n, d, r, ih, f, k n (omega arith))
+
+pub hash-octets : (v₀ : Window) (m : List ℕ) (t : ℕ) (v : Window) (a : ℕ) → t ≡ hash_by v₀ m (a * 4) → v ≡ moved_by a v₀ → (k : ℕ) → k ≤ 4 → a * 4 + k ≤ length m
+    → hash_part t v (take k (drop (a * 4) m)) (length (take k (drop (a * 4) m))) ≡ hash_by v₀ m (a * 4 + k)
+hash-octets v₀ m t v a e f k p q =
+    let part = take k (drop (a * 4) m) in
+    let h : length part ≡ k = simp (length-take, length-drop) (omega arith) in
+    ap (hash_part t v part) h ∙
+    hash-part v₀ m part t v a (λ j l. get_or-take k (drop (a * 4) m) j 0 (omega (arith, h)) ∙ get_or-drop (a * 4) m j 0) e f k p (omega (arith, h))
 
 module _ (x : State) (n : ℕ) where
   pair-at : (q : ℕ) → suc q < n → pair (moved_by q (window_at x 0)) ≡ both (words work word n x) q
@@ -86,8 +84,10 @@ module _ (x : State) (n : ℕ) where
   hash-words m zero l = refl
   hash-words m (suc i) l =
       let k : suc (i / 4) < n = omega arith in
-      ap₂ (λ (t y : ℕ). eight_bits t (y / 2 ^ (24 - i % 4 * 8)) (get_or m i 0)) (hash-words m i (omega arith)) (pair-at (i / 4) k) ∙
-      eight (words work word n x) m i (words-lt n x (i / 4 + 1))
+      let e : i * 8 + 8 ≡ suc i * 8 = omega arith in
+      ap₂ (λ (t y : ℕ). some_bits t (y / 2 ^ (24 - i % 4 * 8)) (get_or m i 0) 8) (hash-words m i (omega arith)) (pair-at (i / 4) k) ∙
+      some (words work word n x) m i (words-lt n x (i / 4 + 1)) 8 (lit≤ tt) ∙
+      ap (hash (words work word n x) m) e
 
 -- the words that are ⊕-ed at the end
 here : (x : State) (n k : ℕ) → suc (k / 4) < n

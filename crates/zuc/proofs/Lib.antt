@@ -1,3 +1,4 @@
+pub mod Substitutions
 pub mod Folds
 pub mod Walk
 pub mod Strings

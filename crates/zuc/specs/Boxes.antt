@@ -1,7 +1,7 @@
 -- Document 2 (TS 35.222) 3.4.1, by the rules of the design report: S0 by three maps of four bits, S1 by the inverse in GF(2^8) modulo
 -- x^8 + x^7 + x^3 + x + 1 and an affine map.
 -- Assumes nothing.
-use Rattle.std.specs.Prelude.{◌≡◌, ℕ, zero, suc, ◌+◌, ◌*◌, ◌/◌, ◌%◌, List, [], ◌∷◌, map, bit_xor, slice_index}
+use Rattle.std.specs.Prelude.{ℕ, zero, suc, ◌+◌, ◌*◌, ◌/◌, ◌%◌, List, [], ◌∷◌, map, bit_xor, slice_index}
 use Rattle.aes.specs.Octets.{below}
 use Rattle.streams.specs.Field.{times}
 use Rattle.zuc.specs.Words.{bits}
@@ -76,7 +76,3 @@ s0_table = map s0 (below 256)
 
 unfoldable pub s1_table : List ℕ
 s1_table = map s1 (below 256)
-
--- the two tables, as they are lent
-abbrev pub Lent : List ℕ → List ℕ → Type 0
-Lent t0 t1 = (t0 ≡ s0_table) × (t1 ≡ s1_table)

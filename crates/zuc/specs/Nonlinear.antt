@@ -3,7 +3,8 @@
 use Rattle.std.specs.Prelude.{ℕ, ◌/◌, ◌%◌, ◌^◌, List, [], ◌∷◌, bit_xor, slice_index}
 use Rattle.aes.specs.Octets.{number}
 use Rattle.zuc.specs.declared.State.{State}
-use Rattle.zuc.specs.Words.{joined, sum, turned}
+use Rattle.streams.specs.Words.{turned}
+use Rattle.zuc.specs.Words.{joined, sum}
 use Rattle.zuc.specs.Boxes.{s0, s1}
 
 -- sH and sL of cell i: its 16 leftmost bits of 31, and its 16 rightmost

@@ -1,7 +1,7 @@
 -- Document 2 (TS 35.222) 3.2: the LFSR, sixteen cells of 31 bits, numbers from 1 to p = 2^31 - 1.
 -- Assumes nothing.
-use Rattle.std.specs.Prelude.{ℕ, ◌+◌, ◌-◌, ◌*◌, ◌%◌, ◌^◌, cond, List, [], ◌∷◌, ◌++◌, map, ◌==◌, slice_index}
-use Rattle.aes.specs.Octets.{up_from}
+use Rattle.std.specs.Prelude.{ℕ, ◌+◌, ◌-◌, ◌*◌, ◌%◌, ◌^◌, cond, List, ◌==◌, slice_index}
+use Rattle.streams.specs.Words.{shifted}
 
 abbrev pub p : ℕ
 p = 2 ^ 31 - 1
@@ -19,4 +19,4 @@ feedback s = total s % p
 
 -- 3.2: s16 = v + u, in initialisation mode; working mode is that with u = 0. Then s1 .. s16 take the places of s0 .. s15
 unfoldable pub shift : ℕ → List ℕ → List ℕ
-shift u s = map (λ i. slice_index s i) (up_from 1 15) ++ (cell (feedback s + u) ∷ [])
+shift u s = shifted s (cell (feedback s + u))

@@ -22,20 +22,12 @@ pair v = v.first * 2 ^ 32 + v.second
 unfoldable pub last_word : Window → ℕ → ℕ
 last_word v n = cond (n % 4 == 0) v.second (word v.state)
 
--- t with the eight bits o of a message, whose words begin at the first bits of y, 40 bits long
-unfoldable pub eight_bits : ℕ → ℕ → ℕ → ℕ
-eight_bits t y o =
-    bit_xor (bit_xor (bit_xor (bit_xor (bit_xor (bit_xor (bit_xor (bit_xor t
-    (o / 128 % 2 * (y / 256 % 2 ^ 32)))
-    (o / 64 % 2 * (y / 128 % 2 ^ 32)))
-    (o / 32 % 2 * (y / 64 % 2 ^ 32)))
-    (o / 16 % 2 * (y / 32 % 2 ^ 32)))
-    (o / 8 % 2 * (y / 16 % 2 ^ 32)))
-    (o / 4 % 2 * (y / 8 % 2 ^ 32)))
-    (o / 2 % 2 * (y / 4 % 2 ^ 32)))
-    (o / 1 % 2 * (y / 2 % 2 ^ 32))
+-- t with the first n of the eight bits o of a message, whose words begin at the first bits of y, 40 bits long
+unfoldable pub some_bits : ℕ → ℕ → ℕ → ℕ → ℕ
+some_bits t y o zero = t
+some_bits t y o (suc n) = bit_xor (some_bits t y o n) (o / 2 ^ (7 - n) % 2 * (y / 2 ^ (8 - n) % 2 ^ 32))
 
--- t with n octets of m from i on, all under one window
-unfoldable pub hash_part : ℕ → Window → List ℕ → ℕ → ℕ → ℕ
-hash_part t v m i zero = t
-hash_part t v m i (suc n) = eight_bits (hash_part t v m i n) (pair v / 2 ^ (24 - (i + n) % 4 * 8)) (slice_index m (i + n))
+-- t with the first n octets of a part of a message, all under one window
+unfoldable pub hash_part : ℕ → Window → List ℕ → ℕ → ℕ
+hash_part t v part zero = t
+hash_part t v part (suc n) = some_bits (hash_part t v part n) (pair v / 2 ^ (24 - n * 8)) (slice_index part n) 8

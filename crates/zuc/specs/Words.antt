@@ -1,6 +1,6 @@
 -- Document 2, section 2: words of 32 bits and their bits. The leftmost is the most significant.
 -- Assumes nothing.
-use Rattle.std.specs.Prelude.{ℕ, zero, suc, ◌+◌, ◌-◌, ◌*◌, ◌/◌, ◌%◌, ◌^◌, List, [], ◌∷◌}
+use Rattle.std.specs.Prelude.{ℕ, zero, suc, ◌+◌, ◌*◌, ◌/◌, ◌%◌, ◌^◌, List, [], ◌∷◌}
 
 -- a number in n bits
 abbrev pub bits : ℕ → ℕ → List ℕ
@@ -14,7 +14,3 @@ joined a b = a * 2 ^ 16 + b
 -- a ⊞ b
 abbrev pub sum : ℕ → ℕ → ℕ
 sum a b = (a + b) % 2 ^ 32
-
--- x <<< k
-abbrev pub turned : ℕ → ℕ → ℕ
-turned x k = x % 2 ^ (32 - k) * 2 ^ k + x / 2 ^ (32 - k)

@@ -1,39 +1,46 @@
 // Key loading, initialisation and the words of the key stream.
 ghost use Rattle.std.specs.Prelude.{◌≡◌, ◌+◌, ◌*◌, ◌^◌, ◌<◌};
 ghost use Rattle.streams.specs.Stream.{after};
-ghost use Rattle.zuc.specs.Boxes.{Lent};
-ghost use Rattle.zuc.specs.Keystream.{load, clock, initialise, work, start, word};
+ghost use Rattle.zuc.specs.Keystream.{load, clock, initialise, work, start as start_of, word};
 
 use crate::State;
-use crate::nonlinear::{next_r1, next_r2, output, part3};
 use crate::register::shifted;
-use crate::tables::{s0_table, s1_table};
+use streams::{Machine, nth_word, started};
 
-fn clocked(t0: &[u8; 256], t1: &[u8; 256], x: State, u: u32) -> State
-    requires { Lent t0.now t1.now }
-    ensures { result ≡ clock u x }
-{
-    let s = x.cells;
-    let cells = shifted(s, u);
-    State {
-        cells,
-        r1: next_r1(t0, t1, x),
-        r2: next_r2(t0, t1, x),
+impl State {
+    #[tactic(auto, unfolding(crate::specs::Keystream::clock))]
+    fn clocked(&self, u: u32) -> State
+        ensures { result ≡ clock u self.now }
+    {
+        State {
+            cells: shifted(self.cells, u),
+            r1: self.next_r1(),
+            r2: self.next_r2(),
+        }
     }
 }
 
-fn initialised_once(t0: &[u8; 256], t1: &[u8; 256], x: State) -> State
-    requires { Lent t0.now t1.now }
-    ensures { result ≡ initialise x }
-{
-    clocked(t0, t1, x, output(x) / 2)
-}
+impl Machine for State {
+    ghost initialise = { initialise };
 
-pub fn worked(t0: &[u8; 256], t1: &[u8; 256], x: State) -> State
-    requires { Lent t0.now t1.now }
-    ensures { result ≡ work x }
-{
-    clocked(t0, t1, x, 0)
+    ghost step = { work };
+
+    ghost word_of = { word };
+
+    #[tactic(auto, unfolding(crate::specs::Keystream::initialise))]
+    fn mix(&mut self) {
+        *self = self.clocked(self.output() / 2);
+    }
+
+    #[tactic(auto, unfolding(crate::specs::Keystream::work))]
+    fn advance(&mut self) {
+        *self = self.clocked(0);
+    }
+
+    #[tactic(auto, unfolding(crate::specs::Keystream::word))]
+    fn word(&self) -> u32 {
+        self.output() ^ self.part3()
+    }
 }
 
 fn loaded_cell(k: u8, d: u32, v: u8) -> u32
@@ -43,6 +50,7 @@ fn loaded_cell(k: u8, d: u32, v: u8) -> u32
     k as u32 * 0x80_0000 + d * 0x100 + v as u32
 }
 
+#[tactic(auto, unfolding(crate::specs::Keystream::load))]
 fn loaded(k: [u8; 16], v: [u8; 16]) -> State
     ensures { result ≡ load k v }
 {
@@ -71,39 +79,16 @@ fn loaded(k: [u8; 16], v: [u8; 16]) -> State
     }
 }
 
-pub fn started(t0: &[u8; 256], t1: &[u8; 256], key: [u8; 16], iv: [u8; 16]) -> State
-    requires { Lent t0.now t1.now }
-    ensures { result ≡ start key iv }
+#[tactic(auto, unfolding(crate::specs::Keystream::start))]
+pub fn start(key: [u8; 16], iv: [u8; 16]) -> State
+    ensures { result ≡ start_of key iv }
 {
-    let mut x = loaded(key, iv);
-    let mut done: usize = 0;
-    while done < 32 {
-        let next = initialised_once(t0, t1, x);
-        x = next;
-        done += 1;
-    }
-    worked(t0, t1, x)
-}
-
-pub fn word_of(x: State) -> u32
-    ensures { result ≡ word x }
-{
-    let s = x.cells;
-    output(x) ^ part3(s)
+    started(loaded(key, iv))
 }
 
 // Word n of the key stream under a key and an IV, counted from 0.
 pub fn stream_word(key: [u8; 16], iv: [u8; 16], n: usize) -> u32
-    ensures { result ≡ word (after work n (start key iv)) }
+    ensures { result ≡ word (after work n (start_of key iv)) }
 {
-    let t0 = s0_table();
-    let t1 = s1_table();
-    let mut x = started(&t0, &t1, key, iv);
-    let mut done: usize = 0;
-    while done < n {
-        let next = worked(&t0, &t1, x);
-        x = next;
-        done += 1;
-    }
-    word_of(x)
+    nth_word(start(key, iv), n)
 }

@@ -1,41 +1,28 @@
 // The bit reorganisation, and F.
 ghost use Rattle.std.specs.Prelude.{◌≡◌, ◌/◌, ◌%◌, ◌^◌};
 ghost use Rattle.zuc.specs.Words.{joined};
-ghost use Rattle.zuc.specs.Boxes.{Lent};
 ghost use Rattle.zuc.specs.Nonlinear.{x0, x1, x2, x3, boxes, l1, l2, w, w1, w2, r1_of, r2_of};
 
 use crate::State;
 use crate::tables::{sub_s0, sub_s1};
-use streams::word;
 
-fn substituted(t0: &[u8; 256], t1: &[u8; 256], x: u32) -> u32
-    requires { Lent t0.now t1.now }
+fn substituted(x: u32) -> u32
     ensures { result ≡ boxes x }
 {
-    word(
-        sub_s0(t0, (x / 0x100_0000 % 256) as u8),
-        sub_s1(t1, (x / 0x1_0000 % 256) as u8),
-        sub_s0(t0, (x / 0x100 % 256) as u8),
-        sub_s1(t1, (x % 256) as u8),
-    )
+    let [a, b, c, d] = x.to_be_bytes();
+    u32::from_be_bytes([sub_s0(a), sub_s1(b), sub_s0(c), sub_s1(d)])
 }
 
 fn linear1(x: u32) -> u32
     ensures { result ≡ l1 x }
 {
-    x ^ (x % 0x4000_0000 * 4 + x / 0x4000_0000)
-        ^ (x % 0x40_0000 * 0x400 + x / 0x40_0000)
-        ^ (x % 0x4000 * 0x4_0000 + x / 0x4000)
-        ^ (x % 0x100 * 0x100_0000 + x / 0x100)
+    x ^ x.rotate_left(2) ^ x.rotate_left(10) ^ x.rotate_left(18) ^ x.rotate_left(24)
 }
 
 fn linear2(x: u32) -> u32
     ensures { result ≡ l2 x }
 {
-    x ^ (x % 0x100_0000 * 0x100 + x / 0x100_0000)
-        ^ (x % 0x4_0000 * 0x4000 + x / 0x4_0000)
-        ^ (x % 0x400 * 0x40_0000 + x / 0x400)
-        ^ (x % 4 * 0x4000_0000 + x / 4)
+    x ^ x.rotate_left(8) ^ x.rotate_left(14) ^ x.rotate_left(22) ^ x.rotate_left(30)
 }
 
 // sH of one cell and sL of another, and the other way round.
@@ -51,51 +38,6 @@ fn low_high(a: u32, b: u32) -> u32
     a % 0x1_0000 * 0x1_0000 + b / 0x8000 % 0x1_0000
 }
 
-fn part0(s: [u32; 16]) -> u32
-    ensures { result ≡ x0 s }
-{
-    high_low(s[15], s[14])
-}
-
-fn part1(s: [u32; 16]) -> u32
-    ensures { result ≡ x1 s }
-{
-    low_high(s[11], s[9])
-}
-
-fn part2(s: [u32; 16]) -> u32
-    ensures { result ≡ x2 s }
-{
-    low_high(s[7], s[5])
-}
-
-pub fn part3(s: [u32; 16]) -> u32
-    ensures { result ≡ x3 s }
-{
-    low_high(s[2], s[0])
-}
-
-pub fn output(x: State) -> u32
-    ensures { result ≡ w x }
-{
-    let s = x.cells;
-    std::num::wrapping_add_u32(part0(s) ^ x.r1, x.r2)
-}
-
-fn output1(x: State) -> u32
-    ensures { result ≡ w1 x }
-{
-    let s = x.cells;
-    std::num::wrapping_add_u32(x.r1, part1(s))
-}
-
-fn output2(x: State) -> u32
-    ensures { result ≡ w2 x }
-{
-    let s = x.cells;
-    x.r2 ^ part2(s)
-}
-
 // The low half of one word and the high half of another.
 fn crossed(a: u32, b: u32) -> u32
     ensures { result ≡ joined (a % 2 ^ 16) (b / 2 ^ 16) }
@@ -103,16 +45,69 @@ fn crossed(a: u32, b: u32) -> u32
     a % 0x1_0000 * 0x1_0000 + b / 0x1_0000
 }
 
-pub fn next_r1(t0: &[u8; 256], t1: &[u8; 256], x: State) -> u32
-    requires { Lent t0.now t1.now }
-    ensures { result ≡ r1_of x }
-{
-    substituted(t0, t1, linear1(crossed(output1(x), output2(x))))
-}
+impl State {
+    // X0, X1, X2 and X3.
+    #[tactic(auto, unfolding(crate::specs::Nonlinear::x0))]
+    fn part0(&self) -> u32
+        ensures { result ≡ x0 self.now.cells }
+    {
+        high_low(self.cells[15], self.cells[14])
+    }
 
-pub fn next_r2(t0: &[u8; 256], t1: &[u8; 256], x: State) -> u32
-    requires { Lent t0.now t1.now }
-    ensures { result ≡ r2_of x }
-{
-    substituted(t0, t1, linear2(crossed(output2(x), output1(x))))
+    #[tactic(auto, unfolding(crate::specs::Nonlinear::x1))]
+    fn part1(&self) -> u32
+        ensures { result ≡ x1 self.now.cells }
+    {
+        low_high(self.cells[11], self.cells[9])
+    }
+
+    #[tactic(auto, unfolding(crate::specs::Nonlinear::x2))]
+    fn part2(&self) -> u32
+        ensures { result ≡ x2 self.now.cells }
+    {
+        low_high(self.cells[7], self.cells[5])
+    }
+
+    #[tactic(auto, unfolding(crate::specs::Nonlinear::x3))]
+    pub fn part3(&self) -> u32
+        ensures { result ≡ x3 self.now.cells }
+    {
+        low_high(self.cells[2], self.cells[0])
+    }
+
+    // W, W1 and W2.
+    #[tactic(auto, unfolding(crate::specs::Nonlinear::w))]
+    pub fn output(&self) -> u32
+        ensures { result ≡ w self.now }
+    {
+        (self.part0() ^ self.r1).wrapping_add(self.r2)
+    }
+
+    #[tactic(auto, unfolding(crate::specs::Nonlinear::w1))]
+    fn output1(&self) -> u32
+        ensures { result ≡ w1 self.now }
+    {
+        self.r1.wrapping_add(self.part1())
+    }
+
+    #[tactic(auto, unfolding(crate::specs::Nonlinear::w2))]
+    fn output2(&self) -> u32
+        ensures { result ≡ w2 self.now }
+    {
+        self.r2 ^ self.part2()
+    }
+
+    #[tactic(auto, unfolding(crate::specs::Nonlinear::r1_of))]
+    pub fn next_r1(&self) -> u32
+        ensures { result ≡ r1_of self.now }
+    {
+        substituted(linear1(crossed(self.output1(), self.output2())))
+    }
+
+    #[tactic(auto, unfolding(crate::specs::Nonlinear::r2_of))]
+    pub fn next_r2(&self) -> u32
+        ensures { result ≡ r2_of self.now }
+    {
+        substituted(linear2(crossed(self.output2(), self.output1())))
+    }
 }

@@ -34,25 +34,9 @@ fn new_cell(s: [u32; 16], u: u32) -> u32
     cell_of(weighed(s[15], s[13], s[10], s[4], s[0], u))
 }
 
+#[tactic(auto, unfolding(crate::specs::Register::shift))]
 pub fn shifted(s: [u32; 16], u: u32) -> [u32; 16]
     ensures { result ≡ shift u s }
 {
-    [
-        s[1],
-        s[2],
-        s[3],
-        s[4],
-        s[5],
-        s[6],
-        s[7],
-        s[8],
-        s[9],
-        s[10],
-        s[11],
-        s[12],
-        s[13],
-        s[14],
-        s[15],
-        new_cell(s, u),
-    ]
+    streams::shifted(s, new_cell(s, u))
 }

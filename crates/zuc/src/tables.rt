@@ -1,8 +1,8 @@
-// S0 and S1. Their tables are written to the stack where they are named: once for a message, and lent to what works on it.
+// S0 and S1, by their tables.
 ghost use Rattle.std.specs.Prelude.{◌≡◌};
-ghost use Rattle.zuc.specs.Boxes.{s0, s1, s0_table, s1_table};
+ghost use Rattle.zuc.specs.Boxes.{s0, s1};
 
-const S0: [u8; 256] = [
+static S0: [u8; 256] = [
     62, 114, 91, 71, 202, 224, 0, 51, 4, 209, 84, 152, 9, 185, 109, 203, 123, 27, 249, 50, 175,
     157, 106, 165, 184, 45, 252, 29, 8, 83, 3, 144, 77, 78, 132, 153, 228, 206, 217, 145, 221, 182,
     133, 72, 139, 41, 110, 172, 205, 193, 248, 30, 115, 67, 105, 198, 181, 189, 253, 57, 99, 32,
@@ -18,7 +18,7 @@ const S0: [u8; 256] = [
     244, 69, 122, 25, 223, 238, 120, 52, 96,
 ];
 
-const S1: [u8; 256] = [
+static S1: [u8; 256] = [
     85, 194, 99, 113, 59, 200, 71, 134, 159, 60, 218, 91, 41, 170, 253, 119, 140, 197, 148, 12,
     166, 26, 19, 0, 227, 168, 22, 114, 64, 249, 248, 66, 68, 38, 104, 150, 129, 217, 69, 62, 16,
     118, 198, 167, 139, 57, 67, 225, 58, 181, 86, 42, 192, 109, 179, 5, 34, 102, 191, 220, 11, 250,
@@ -34,28 +34,16 @@ const S1: [u8; 256] = [
     215, 176, 37, 172, 175, 18, 3, 226, 242,
 ];
 
-pub fn s0_table() -> [u8; 256]
-    ensures { result ≡ s0_table }
-{
-    S0
-}
-
-pub fn s1_table() -> [u8; 256]
-    ensures { result ≡ s1_table }
-{
-    S1
-}
-
-pub fn sub_s0(table: &[u8; 256], b: u8) -> u8
-    requires { table.now ≡ s0_table }
+#[tactic(auto, using(crate::proofs::Substitutions::s0_at))]
+pub fn sub_s0(b: u8) -> u8
     ensures { result ≡ s0 b }
 {
-    table[b as usize]
+    S0[b as usize]
 }
 
-pub fn sub_s1(table: &[u8; 256], b: u8) -> u8
-    requires { table.now ≡ s1_table }
+#[tactic(auto, using(crate::proofs::Substitutions::s1_at))]
+pub fn sub_s1(b: u8) -> u8
     ensures { result ≡ s1 b }
 {
-    table[b as usize]
+    S1[b as usize]
 }

@@ -4,4 +4,4 @@ use Rattle.snow3g.proofs.boxes.s1_word.Goals as goal
 
 pub returns : goal.returns
 returns c =
-    c.substituted.ensures ∙ s1-box _ c.requires c.args.w (search rules)
+    c.substituted.ensures ∙ s1-box c.args.w (search rules)

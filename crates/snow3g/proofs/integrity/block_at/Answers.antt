@@ -1,19 +1,14 @@
-use Rattle.std.proofs.Common.{add-zero}
-use Rattle.snow3g.proofs.Blocks.{block-eight}
+use Rattle.std.proofs.Common.{◌≡◌, ◌-◌, ◌*◌, min, length, take, drop, ap, ◌∙◌, arith, length-drop}
+use lib.Seq.{take_all}
+use Rattle.snow3g.proofs.Blocks.{block-filled}
 use Rattle.snow3g.proofs.integrity.block_at.Goals as goal
 
 pub returns : goal.returns
 returns c =
-    let a = c.args in
-    rw (
-      c.long.ensures,
-      c.octet_at-8.ensures,
-      c.octet_at-7.ensures,
-      c.octet_at-6.ensures,
-      c.octet_at-5.ensures,
-      c.octet_at-4.ensures,
-      c.octet_at-3.ensures,
-      c.octet_at-2.ensures,
-      c.octet_at.ensures,
-    )
-    (rw add-zero at (block-eight a.l.now a.i))
+    let l = c.args.l.now in
+    let k = c.args.i * 8 in
+    let n = c.min-n.result in
+    let rest : take (length l - k) (drop k l) ≡ drop k l = take_all _ _ (simp length-drop (omega arith)) in
+    let least : n ≡ min (length l - k) 8 = c.min-n.ensures ∙ ap (λ x. min (length x) 8) rest ∙ ap (λ x. min x 8) (length-drop k l) in
+    c.from_be_bytes.ensures ∙
+    block-filled l _ c.args.i n (omega arith) (omega arith) (λ s. omega arith) (c.copy_from_slice.ensures.after ∙ ap (take n) rest)

@@ -5,4 +5,4 @@ use Rattle.snow3g.proofs.integrity.closed.Goals as goal
 pub returns : goal.returns
 unfolding closed
 returns c =
-    rw (c.product.ensures, c.eval.ensures, bit_length)
+    rw (c.times.ensures, c.of.ensures, c.eval.ensures, bit_length)

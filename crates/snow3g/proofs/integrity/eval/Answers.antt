@@ -1,18 +1,17 @@
-use Rattle.std.proofs.Common.{◌≡◌, refl, add-one, arith}
+use Rattle.std.proofs.Common.{◌≡◌, ◌+◌, ◌/◌, length, refl, add-one, arith}
 use Rattle.snow3g.specs.Uia2.{eval}
 use Rattle.snow3g.proofs.integrity.eval.Goals as goal
 
-pub loop-done-init : goal.loop-done-init
+pub loop-i-init : goal.loop-i-init
 unfolding eval
-loop-done-init c =
-    (omega arith, refl)
+loop-i-init c = refl
 
-pub loop-done-preserved : goal.loop-done-preserved
+pub loop-i-preserved : goal.loop-i-preserved
 unfolding eval
-loop-done-preserved c =
-    (omega arith, rw (c.product-next.ensures, c.block_at.ensures, add-one, c.loop-done.invariant.1))
+loop-i-preserved c =
+    rw (c.times-sum.ensures, c.of-factor.ensures, c.block_at.ensures, add-one, c.loop-i.invariant)
 
 pub returns : goal.returns
 returns c =
-    let e : c.loop-done.done ≡ c.blocks-n.result = omega arith in
-    rw (c.loop-done.invariant.1, e, c.blocks-n.ensures)
+    let e : c.loop-i.i ≡ (length c.args.l.now + 7) / 8 = omega (arith, c.div_ceil-i-end.ensures) in
+    rw e at c.loop-i.invariant

@@ -1,9 +1,6 @@
-use Rattle.std.proofs.Common.{◌≡◌, ◌-◌, ◌≤◌}
+use Rattle.std.proofs.Common.{◌≡◌}
 use Rattle.snow3g.specs.Uia2.{eval}
 use Rattle.snow3g.proofs.integrity.eval.Given as goal
 
-abbrev pub invariant-loop-done : goal.invariant-loop-done
-invariant-loop-done l = (l.done ≤ l.n) × (l.sum ≡ eval l.p l.l l.done)
-
-abbrev pub decreases-loop-done : goal.decreases-loop-done
-decreases-loop-done l = l.n - l.done
+abbrev pub invariant-loop-i : goal.invariant-loop-i
+invariant-loop-i l = l.sum ≡ eval l.p l.l l.i

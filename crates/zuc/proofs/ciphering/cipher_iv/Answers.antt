@@ -5,4 +5,4 @@ use Rattle.zuc.proofs.ciphering.cipher_iv.Goals as goal
 pub returns : goal.returns
 unfolding cipher_iv
 returns c =
-    rw div-one
+    rw (c.to_be_bytes.ensures, div-one)

@@ -5,4 +5,4 @@ use Rattle.zuc.proofs.register.shifted.Goals as goal
 pub returns : goal.returns
 unfolding shift feedback
 returns c =
-    rw (c.new_cell.ensures, cell-sum)
+    rw (c.shifted.ensures, c.new_cell.ensures, cell-sum)

@@ -1,7 +1,0 @@
-use Rattle.zuc.specs.Keystream.{work}
-use Rattle.zuc.proofs.keystream.worked.Goals as goal
-
-pub returns : goal.returns
-unfolding work
-returns c =
-    c.clocked.ensures

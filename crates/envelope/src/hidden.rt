@@ -7,10 +7,11 @@ ghost use Rattle.nas_core.specs.Keyed.{payload};
 ghost use Rattle.nas_core.specs.Leaves.{over};
 ghost use Rattle.envelope.specs.Initial.{beside_of, beside, told};
 
-use crate::outgoing::uplink;
 use aes::Input;
 use nas_core::Core;
 use refusals::Refusal;
+
+const UPLINK: u8 = 0;
 
 // Whether a container's value deciphers to a message of the outer type. Three octets decide, so that nothing is written before it is known.
 fn has_type(core: Core, count: u32, bearer: u8, outer: &[u8], value: &[u8]) -> bool
@@ -18,7 +19,12 @@ fn has_type(core: Core, count: u32, bearer: u8, outer: &[u8], value: &[u8]) -> b
     ensures { result ≡ is_inside outer.now (payload core true count bearer 0 value.now) }
 {
     let mut front = [0; 3];
-    core.fill(true, uplink(count, bearer), &value[..3], &mut front);
+    let input = Input {
+        count,
+        bearer,
+        direction: UPLINK,
+    };
+    core.fill(true, input, &value[..3], &mut front);
     initial::is_inside(outer, &front)
 }
 
@@ -37,7 +43,12 @@ fn take_inside(
 {
     if 3 <= value.len() && has_type(core, count, bearer, outer, value) {
         let n = value.len();
-        core.fill(true, uplink(count, bearer), value, &mut second[..n]);
+        let input = Input {
+            count,
+            bearer,
+            direction: UPLINK,
+        };
+        core.fill(true, input, value, &mut second[..n]);
         return Ok(n);
     }
     Err(Refusal::Container)

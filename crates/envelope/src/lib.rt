@@ -96,6 +96,7 @@ pub fn read(
 }
 
 // Refusal 12: neither ATTACH REQUEST nor TRACKING AREA UPDATE REQUEST.
+#[tactic(auto, unfolding(crate::specs::Eps::not_eps))]
 pub fn not_eps(octets: &[u8]) -> bool
     ensures { result ≡ not_eps octets.now }
 {
@@ -137,6 +138,7 @@ pub fn read_eps(core: Core, rec: Record, message: &[u8], out: &mut [u8]) -> Resu
 }
 
 // Refusal 15.
+#[tactic(auto, unfolding(crate::specs::Containers::other_algorithms))]
 pub fn other_algorithms(core: Core, value: &[u8]) -> bool
     requires { 8 ≤ length value.now }
     ensures { result ≡ other_algorithms core value.now }

@@ -13,17 +13,6 @@ const UPLINK: u8 = 0;
 
 const INTEGRITY: u8 = 1;
 
-// An initial message and its container go uplink with one COUNT.
-pub fn uplink(count: u32, bearer: u8) -> Input
-    ensures { result ≡ record { count = count; bearer = bearer; direction = 0 } }
-{
-    Input {
-        count,
-        bearer,
-        direction: UPLINK,
-    }
-}
-
 // The mandatory part and the container with the whole message ciphered, or the message itself where it hides nothing.
 fn put_outgoing(core: Core, count: u32, bearer: u8, whole: &[u8], out: &mut [u8])
     requires { (mandatory_length whole.now ≤ length whole.now) × (length whole.now ≤ 65535) × (length out.old ≡ outer_length whole.now) }
@@ -31,7 +20,12 @@ fn put_outgoing(core: Core, count: u32, bearer: u8, whole: &[u8], out: &mut [u8]
 {
     if initial::hides(whole) {
         let start = initial::mandatory_length(whole) + 3;
-        core.fill(true, uplink(count, bearer), whole, &mut out[start..]);
+        let input = Input {
+            count,
+            bearer,
+            direction: UPLINK,
+        };
+        core.fill(true, input, whole, &mut out[start..]);
         initial::put_front(whole, &mut out[..start]);
         return;
     }
@@ -45,6 +39,10 @@ pub fn put_initial(core: Core, count: u32, bearer: u8, whole: &[u8], out: &mut [
 {
     let end = crate::HEADER + initial::outer_length(whole);
     put_outgoing(core, count, bearer, whole, &mut out[crate::HEADER..end]);
-    let input = uplink(count, bearer);
+    let input = Input {
+        count,
+        bearer,
+        direction: UPLINK,
+    };
     crate::wrap(core, INTEGRITY, input, &mut out[..end]);
 }

@@ -31,11 +31,11 @@ unfolding envelope
 returns c =
     let a = c.args in
     let m = a.message.now in
-    let sent = payload a.core (ciphers a.header_type) a.count a.bearer a.direction (drop 7 m) in
-    let made = protected a.core a.count a.bearer a.direction sent in
+    let sent = payload a.core (ciphers a.header_type) a.input.count a.input.bearer a.input.direction (drop 7 m) in
+    let made = protected a.core a.input.count a.input.bearer a.input.direction sent in
     let inner : drop 5 (take (length m - 2) (drop 2 m)) ≡ drop 7 m = ap (drop 5) (rest 2 m) ∙ drop-drop 5 2 m in
     headed m _ made a.header_type (omega (arith, c.requires))
     (c.seal.ensures
-    ∙ ap (λ (t : Bool). protected a.core a.count a.bearer a.direction (payload a.core t a.count a.bearer a.direction (drop 5 (take (length m - 2) (drop 2 m))))) c.is_ciphering-ciphered.ensures
-    ∙ ap (λ (l : List ℕ). protected a.core a.count a.bearer a.direction (payload a.core (ciphers a.header_type) a.count a.bearer a.direction l)) inner)
-    (protected-length a.core a.count a.bearer a.direction sent ∙ omega (arith, c.requires, length-drop 7 m, payload-length a.core a.count a.bearer a.direction (drop 7 m) (ciphers a.header_type)))
+    ∙ ap (λ (t : Bool). protected a.core a.input.count a.input.bearer a.input.direction (payload a.core t a.input.count a.input.bearer a.input.direction (drop 5 (take (length m - 2) (drop 2 m))))) c.is_ciphering-ciphered.ensures
+    ∙ ap (λ (l : List ℕ). protected a.core a.input.count a.input.bearer a.input.direction (payload a.core (ciphers a.header_type) a.input.count a.input.bearer a.input.direction l)) inner)
+    (protected-length a.core a.input.count a.input.bearer a.input.direction sent ∙ omega (arith, c.requires, length-drop 7 m, payload-length a.core a.input.count a.input.bearer a.input.direction (drop 7 m) (ciphers a.header_type)))

@@ -1,52 +1,45 @@
-use mathlib.Core.Path.{◌≡◌, ap, sym, ◌∙◌}
-use mathlib.Core.Bool.{true}
-use mathlib.Core.List.{List}
-use native.Mathlib.Omega.{arith}
-use Prim.Native.Nat.{ℕ, ◌+◌, ◌-◌, ◌≤◌}
-use lib.ListN.{length, take, drop, length-take, length-drop}
-use Rattle.initial.specs.declared.Container.TheVariants.{At}
+use Rattle.initial.specs.declared.Unwalkable.{Unwalkable}
+use Rattle.std.proofs.Common.{true, Result, Option, ◌≡◌, ℕ, ◌+◌, ◌-◌, ◌≤◌, List, length, take, drop, length-take, length-drop, Ok, Some, ap, sym, ◌∙◌, arith, rules}
+use Rattle.initial.specs.declared.Span.{Span}
 use Rattle.initial.specs.Inside.{Hidden, of_type, hidden_in}
 use Rattle.initial.specs.Walk.{container_of}
 use Rattle.initial.proofs.Laws.{laws}
 use Rattle.nas_core.specs.Keyed.{payload}
 use Rattle.nas_core.specs.Leaves.{over}
 use Rattle.envelope.specs.Initial.{beside, told}
-use borrow.Author.Rules.{rules}
-use Rattle.envelope.proofs.hidden.read_inside.Goals.{In-At}
 use Rattle.envelope.proofs.hidden.read_inside.Goals as goal
 
--- the container's value lies in the message
-found : (c : In-At) → container_of c.args.plain.now ≡ At c.in-At.start c.in-At.n
-found c = sym c.find_container-found.ensures ∙ c.in-At.is
+pub returns-in-Err : goal.returns-in-Err
+returns-in-Err c =
+    let e = sym c.find_container.ensures ∙ c.in-Err.is in record { answer = simp e; wrote = simp e }
 
-ends : (c : In-At) → c.in-At.start + c.in-At.n ≤ length c.args.plain.now
-ends c = ((laws.walks c.args.plain.now).within c.in-At.start c.in-At.n (found c)).1
+-- the container's value lies in the message
+ends : (p : List ℕ) (r : Result (Option Span) Unwalkable) (o : Option Span) (s : Span) → r ≡ container_of p → r ≡ Ok o → o ≡ Some s → s.start + s.length ≤ length p
+ends p r o s e f g = ((laws.walks p).within s.start s.length (sym e ∙ f ∙ ap Ok g)).1
 
 -- what is taken from there is its value
-value : (f : List ℕ → List ℕ) (p : List ℕ) (start n : ℕ) → container_of p ≡ At start n → of_type p (f (take ((start + n) - start) (drop start p))) ≡ hidden_in f p (container_of p)
-value f p start n e = let z : (start + n) - start ≡ n = omega arith in simp (e, z)
+value : (f : List ℕ → List ℕ) (p : List ℕ) (r : Result (Option Span) Unwalkable) (o : Option Span) (s : Span) → r ≡ container_of p → r ≡ Ok o → o ≡ Some s
+    → of_type p (f (take ((s.start + s.length) - s.start) (drop s.start p))) ≡ hidden_in f p (container_of p)
+value f p r o s e f' g = let z : (s.start + s.length) - s.start ≡ s.length = omega arith in simp (sym e ∙ f' ∙ ap Ok g, z)
 
 pub overflow_add-end : goal.overflow_add-end
 overflow_add-end c =
-    search (rules, ends (goal.at.overflow_add-end c).In-At)
+    search (rules, ends c.args.plain.now _ _ _ c.find_container.ensures c.in-Ok-Some.is c.in-Ok-Some.field-0-is)
 
 pub slice_bounds-take_inside-end : goal.slice_bounds-take_inside-end
 slice_bounds-take_inside-end c =
-    ends (goal.at.slice_bounds-take_inside-end c).In-At
+    ends c.args.plain.now _ _ _ c.find_container.ensures c.in-Ok-Some.is c.in-Ok-Some.field-0-is
 
 pub take_inside-requires : goal.take_inside-requires
 take_inside-requires c =
-    (c.requires.0, simp (length-take, length-drop) (omega (arith, ends (goal.at.take_inside-requires c).In-At, c.requires.1)))
+    (c.requires.0, simp (length-take, length-drop) (omega (arith, ends c.args.plain.now _ _ _ c.find_container.ensures c.in-Ok-Some.is c.in-Ok-Some.field-0-is, c.requires.1)))
 
-pub returns-in-Fails : goal.returns-in-Fails
-returns-in-Fails c =
-    let e = sym c.find_container-found.ensures ∙ c.in-Fails.is in record { answer = simp e; wrote = simp e }
+pub returns-in-Ok-None : goal.returns-in-Ok-None
+returns-in-Ok-None c =
+    let e = sym c.find_container.ensures ∙ c.in-Ok-None.is ∙ ap Ok c.in-Ok-None.field-0-is in record { answer = simp e; wrote = simp e }
 
-pub returns-in-Absent : goal.returns-in-Absent
-returns-in-Absent c =
-    let e = sym c.find_container-found.ensures ∙ c.in-Absent.is in record { answer = simp e; wrote = simp e }
-
-pub returns-in-At : goal.returns-in-At
-returns-in-At c =
-    let e = value (λ v. payload c.args.core true c.args.count c.args.bearer 0 v) c.args.plain.now c.in-At.start c.in-At.n (found (goal.at.returns-in-At c).In-At) in
-    record { answer = c.take_inside.ensures.answer ∙ ap told e; wrote = c.take_inside.ensures.wrote ∙ ap (λ (h : Hidden). over (beside h) c.args.second.now) e }
+pub returns-in-Ok-Some : goal.returns-in-Ok-Some
+returns-in-Ok-Some c =
+    let a = c.args in
+    let e = value (λ v. payload a.core true a.count a.bearer 0 v) a.plain.now _ _ _ c.find_container.ensures c.in-Ok-Some.is c.in-Ok-Some.field-0-is in
+    record { answer = c.take_inside.ensures.answer ∙ ap told e; wrote = c.take_inside.ensures.wrote ∙ ap (λ (h : Hidden). over (beside h) a.second.now) e }

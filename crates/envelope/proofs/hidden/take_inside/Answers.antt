@@ -7,22 +7,21 @@ use lib.Seq.{length-take-le}
 use Rattle.initial.specs.Inside.{is_inside, of_type}
 use Rattle.nas_core.specs.Leaves.{over}
 use Rattle.nas_core.proofs.Keys.{payload-length}
-use Rattle.envelope.specs.declared.Inside.TheVariants.{Refused, Handed}
+use Rattle.std.specs.Prelude.{Ok, Err}
+use Rattle.refusals.specs.declared.Refusal.TheVariants.{Container}
 use Rattle.envelope.specs.Initial.{beside, told}
 use Rattle.envelope.proofs.Insides.{short}
+use Rattle.nas_core.specs.Keyed.{payload}
+use native.Mathlib.Omega.{arith}
+use Rattle.envelope.proofs.hidden.take_inside.Goals.{else-value-ge3-via-then-value-ge3+else-has_type, else-value-ge3-via-else-value-ge3}
 use Rattle.envelope.proofs.hidden.take_inside.Goals as goal
 
-refused : (p q out : List ℕ) → is_inside p q ≡ false → (Refused ≡ told (of_type p q)) × (out ≡ over (beside (of_type p q)) out)
+refused : (p q out : List ℕ) → is_inside p q ≡ false → (Err Container ≡ told (of_type p q)) × (out ≡ over (beside (of_type p q)) out)
 refused p q out e = (simp e, simp e)
 
 handed : (p q ys out : List ℕ) (n : ℕ) → is_inside p q ≡ true → n ≡ length q → ys ≡ q
-    → (Handed n ≡ told (of_type p q)) × (ys ++ drop n out ≡ over (beside (of_type p q)) out)
+    → (Ok n ≡ told (of_type p q)) × (ys ++ drop n out ≡ over (beside (of_type p q)) out)
 handed p q ys out n e l y = (simp (e, l), simp (e, l, y))
-
-pub returns-then-value-lt3 : goal.returns-then-value-lt3
-returns-then-value-lt3 c =
-    let h = refused _ _ c.args.second.now (short c.args.core c.args.count c.args.bearer c.args.outer.now c.args.value.now c.requires.0 c.if-value-lt3.true) in
-    record { answer = h.0; wrote = h.1 }
 
 pub slice_bounds-fill-end-then-has_type : goal.slice_bounds-fill-end-then-has_type
 slice_bounds-fill-end-then-has_type c =
@@ -41,5 +40,10 @@ returns-then-has_type c =
 
 pub returns : goal.returns
 returns c =
-    let h = refused _ _ c.args.second.now (sym c.has_type.ensures ∙ c.if-has_type.false) in
+    let a = c.args in
+    let no : is_inside a.outer.now (payload a.core true a.count a.bearer 0 a.value.now) ≡ false = elim c.else-value-ge3.branch [
+      | else-value-ge3-via-then-value-ge3+else-has_type w ↦ sym w.has_type.ensures ∙ w.if-has_type.false
+      | else-value-ge3-via-else-value-ge3 w ↦ short a.core a.count a.bearer a.outer.now a.value.now c.requires.0 (omega (arith, w.if-value-ge3.false))
+    ] in
+    let h = refused _ _ a.second.now no in
     record { answer = h.0; wrote = h.1 }

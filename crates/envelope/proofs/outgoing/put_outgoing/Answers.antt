@@ -63,12 +63,12 @@ returns-then-hides c =
     (laid (start (goal.at.returns-then-hides c).After-mandatory_length-start) c.args.out.now ys zs (omega (arith, long (goal.at.returns-then-hides c).After-mandatory_length-start))
     ∙ joined (c.put_front.ensures ∙ ap (front_of w) (sym (payload-length c.args.core c.args.count c.args.bearer 0 w true))) c.fill.ensures)
 
-pub copy-requires : goal.copy-requires
+pub copy_from_slice-requires : goal.copy_from_slice-requires
 unfolding outer_length
-copy-requires c =
-    sym (c.requires.2 ∙ simp (sym c.hides.ensures ∙ c.if-hides.false))
+copy_from_slice-requires c =
+    c.requires.2 ∙ simp (sym c.hides.ensures ∙ c.if-hides.false)
 
 pub returns : goal.returns
 unfolding outgoing outer_of
 returns c =
-    simp (sym c.hides.ensures ∙ c.if-hides.false) c.copy.ensures
+    simp (sym c.hides.ensures ∙ c.if-hides.false) c.copy_from_slice.ensures.after

@@ -24,13 +24,17 @@ fn word(n: impl Into<u64>, digits: usize) {
 
 // Octets after a space, `-` for none, and the end of the line.
 fn octets(written: &[u8]) {
-    io::write_all(1, b" ");
     if written.is_empty() {
-        io::write_all(1, b"-");
+        io::write_all(1, b" -\n");
+        return;
     }
-    for octet in written {
-        io::print_hex(1, u64::from(*octet), 2);
+    if 64 < written.len() {
+        return;
     }
+    let mut text = [0; 128];
+    let n = hex_lines::put_octets(written, &mut text, 0);
+    io::write_all(1, b" ");
+    io::write_all(1, hex_lines::front(&text, n));
     io::write_all(1, b"\n");
 }
 
@@ -101,34 +105,34 @@ fn fresh() -> Context {
 
 // What one end seals.
 fn sealed(context: Context) {
-    let mut out = [0u8; 16];
-    let context = used(
+    let mut out = [0; 16];
+    let first = used(
         context.seal(2, Direction::Uplink, b"\x07\x48\xaa", &mut out),
         &out,
     );
-    let context = used(context.service_request(5, &mut out), &out);
-    let context = used(context.service_request(5, &mut out), &out);
-    let context = used(context.seal(1, Direction::Downlink, b"", &mut out), &out);
-    used(context.service_request(8, &mut out), &out);
+    let second = used(first.service_request(5, &mut out), &out);
+    let third = used(second.service_request(5, &mut out), &out);
+    let fourth = used(third.seal(1, Direction::Downlink, b"", &mut out), &out);
+    used(fourth.service_request(8, &mut out), &out);
 }
 
 // What the other opens: SERVICE REQUEST 2, the message late, SERVICE REQUEST 1 too late, downlink, and short; a message of nothing.
-fn received(context: Context) {
-    let mut out = [0u8; 16];
-    let mut context = context;
-    for (direction, message) in [
-        (Direction::Uplink, b"\xc7\xa2\xb2\xd0" as &[u8]),
+fn received(mut context: Context) {
+    let messages: [(Direction, &[u8]); 6] = [
+        (Direction::Uplink, b"\xc7\xa2\xb2\xd0"),
         (Direction::Uplink, b"\x27\x15\x41\x53\xa7\x00\xea\xeb\x9a"),
         (Direction::Uplink, b"\xc7\xa1\x4b\x16"),
         (Direction::Downlink, b"\xc7\xa1\x4b\x16"),
         (Direction::Downlink, b"\xc7\xa1\x4b"),
         (Direction::Downlink, b"\x17\x52\xca\x1c\x90\x00"),
-    ] {
+    ];
+    let mut out = [0; 16];
+    for (direction, message) in messages {
         context = opened(context.open(direction, message, &mut out), &out);
     }
 }
 
-fn number<A>(answer: &Result<A, Refusal>) -> u8 {
+fn number<A: Copy>(answer: Result<A, Refusal>) -> u8 {
     match answer {
         Ok(_) => 0,
         Err(refusal) => refusal.number(),
@@ -141,15 +145,9 @@ fn tell(what: &[u8], number: u8) {
     io::write_all(1, b"\n");
 }
 
-fn long_sealed(context: Context, inner: &[u8], message: &mut [u8]) {
-    let done = context.seal(2, Direction::Downlink, inner, message);
-    tell(b"seal: ", number(&done.answer));
-    octets(hex_lines::front(message, 10));
-}
-
 fn long_opened(context: Context, message: &[u8], plain: &mut [u8]) {
     let done = context.open(Direction::Downlink, message, plain);
-    tell(b"open: ", number(&done.answer));
+    tell(b"open: ", number(done.answer));
     octets(hex_lines::front(plain, 4));
 }
 
@@ -157,15 +155,16 @@ fn long_opened(context: Context, message: &[u8], plain: &mut [u8]) {
 fn at_limit(context: Context, n: usize)
     requires { n ≤ 65536 }
 {
-    let inner = [0x5au8; 65536];
-    let mut message = [0u8; 65542];
+    let inner = [0x5a; 65543];
+    let mut message = [0; 65543];
     message[0] = 0x27;
-    let message = &mut message[..n + 6];
-    long_sealed(context, &inner[..n], message);
-    let mut plain = [0u8; 65536];
-    let mut short = [0u8; 65534];
-    long_opened(context, message, &mut plain);
-    long_opened(context, message, &mut short);
+    let done = context.seal(2, Direction::Downlink, &inner[..n], &mut message);
+    tell(b"seal: ", number(done.answer));
+    octets(&message[..10]);
+    let mut plain = [0; 65543];
+    let mut short = [0; 65534];
+    long_opened(context, &message[..n + 6], &mut plain);
+    long_opened(context, &message[..n + 6], &mut short);
 }
 
 fn main() {

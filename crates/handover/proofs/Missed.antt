@@ -17,7 +17,7 @@ use Rattle.look.specs.Look.{look_of}
 use Rattle.nas_core.specs.Keyed.{wraps}
 use Rattle.nas_core.specs.Verify.{verify_of}
 use Rattle.nas_5gs.specs.declared.Context.{Context}
-use Rattle.nas_5gs.specs.declared.Direction.{Direction}
+use Rattle.nas_core.specs.declared.Direction.{Direction}
 use Rattle.nas_5gs.specs.declared.Connection.{Connection}
 use Rattle.nas_5gs.specs.OpenAnswer.{OpenAnswer, Refused, Accepted, Content}
 use Rattle.nas_5gs.specs.Places.{direction_no, bearer_no, place_of, record_at, used, used_late}

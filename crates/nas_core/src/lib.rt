@@ -6,7 +6,7 @@ ghost use Rattle.count.specs.Rule.{exhausted, forward_of, late_of, try_forward};
 ghost use Rattle.refusals.specs.Order.{◌when◌, first};
 ghost use Rattle.refusals.specs.Numbers.{refused};
 ghost use Rattle.nas_core.specs.Refusals.{core_fault, send_refusals, hand_refusals, unbuilt, any_over, held_refusals};
-ghost use Rattle.nas_core.specs.Types.{wrong_type, ciphers};
+ghost use Rattle.nas_core.specs.Types.{wrong_type, ciphers, direction_no};
 ghost use Rattle.nas_core.specs.Keyed.{wraps, away_from_null, code_by, payload, protected};
 ghost use Rattle.nas_core.specs.Verify.{same, fits, verify_of, advanced};
 ghost use Rattle.nas_core.specs.Leaves.{read_as};
@@ -49,6 +49,24 @@ pub struct Received {
     pub distance: u32,
     pub wrote: usize,
     pub header_type: u8,
+}
+
+#[derive(Clone, Copy, Debug, PartialEq, Eq)]
+pub enum Direction {
+    Uplink,
+    Downlink,
+}
+
+impl Direction {
+    // As the algorithms take it.
+    pub fn number(self) -> u8
+        ensures { (result ≡ direction_no self) × (result < 2) }
+    {
+        match self {
+            Direction::Uplink => 0,
+            Direction::Downlink => 1,
+        }
+    }
 }
 
 // Whether one of two codes is not built.

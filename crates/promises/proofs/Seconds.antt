@@ -22,7 +22,7 @@ use Rattle.initial.specs.Inside.{Hidden, refused, handed, is_asked, is_inside, v
 use Rattle.envelope.specs.Initial.{beside_of, beside}
 use Rattle.envelope.proofs.Insides.{asked_is}
 use Rattle.nas_5gs.specs.declared.Context.{Context}
-use Rattle.nas_5gs.specs.declared.Direction.{Direction}
+use Rattle.nas_core.specs.declared.Direction.{Direction}
 use Rattle.nas_5gs.specs.declared.Connection.{Connection}
 use Rattle.nas_5gs.specs.OpenAnswer as open'
 use Rattle.nas_5gs.specs.Places.{direction_no, bearer_no, place_of, record_at}

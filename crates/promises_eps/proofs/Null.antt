@@ -19,8 +19,8 @@ use Rattle.algorithms.specs.Codes.{code_of}
 use Rattle.nas_core.specs.Keyed.{wraps, code_by}
 use Rattle.nas_core.specs.Verify.{fits, verify_of}
 use Rattle.nas_eps.specs.declared.Context.{Context}
-use Rattle.nas_eps.specs.declared.Direction.{Direction}
-use Rattle.nas_eps.specs.declared.Direction.TheVariants.{Uplink}
+use Rattle.nas_core.specs.declared.Direction.{Direction}
+use Rattle.nas_core.specs.declared.Direction.TheVariants.{Uplink}
 use Rattle.nas_eps.specs.OpenAnswer as open'
 use Rattle.nas_eps.specs.Places.{uplink, place_of, record_at, next_at}
 use Rattle.nas_eps.specs.Leaves.{open_values}

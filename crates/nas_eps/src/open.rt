@@ -23,6 +23,7 @@ fn check_way(direction: Direction) -> Result<(), Refusal>
 }
 
 impl Context {
+    #[tactic(auto, unfolding(crate::specs::Open::open_refusal))]
     fn check_open(
         self,
         direction: Direction,

@@ -1,7 +1,7 @@
-use Rattle.std.proofs.Common.{sym, ◌∙◌, arith}
+use Rattle.std.proofs.Common.{ℕ, ap, sym, ◌∙◌, arith}
 use Rattle.refusals.proofs.Laws.{number-not0}
 use Rattle.nas_eps.proofs.Passed.{open-passed, form-passed, request-form, message-form}
-use Rattle.nas_eps.specs.Open.{open_of}
+use Rattle.nas_eps.specs.Open.{opened, requested, open_of}
 use Rattle.nas_eps.proofs.Context.open.Goals as goal
 
 pub returns-in-Err : goal.returns-in-Err
@@ -21,7 +21,9 @@ receive_request-requires c =
 pub returns-then-is_request : goal.returns-then-is_request
 unfolding open_of
 returns-then-is_request c =
-    simp (sym c.number.ensures.0, sym c.in_default.ensures, sym c.is_request.ensures ∙ c.if-is_request.true) (c.receive_request.ensures _)
+    let a = c.args in
+    simp (sym c.in_default.ensures, sym c.is_request.ensures ∙ c.if-is_request.true)
+    (c.receive_request.ensures _ ∙ ap (λ (d : ℕ). requested a.self d a.message.now a.out.now) c.number.ensures.0)
 
 pub receive-requires : goal.receive-requires
 receive-requires c =
@@ -33,4 +35,6 @@ receive-requires c =
 pub returns : goal.returns
 unfolding open_of
 returns c =
-    simp (sym c.number-2.ensures.0, sym c.in_default.ensures, sym c.is_request.ensures ∙ c.if-is_request.false) c.receive.ensures
+    let a = c.args in
+    simp (sym c.in_default.ensures, sym c.is_request.ensures ∙ c.if-is_request.false)
+    (c.receive.ensures ∙ ap (λ (d : ℕ). opened a.self d a.message.now a.out.now) c.number-2.ensures.0)

@@ -14,21 +14,21 @@ used-requires c =
     let f = forward-within _ _ _ _ _ (sym c.forward.ensures ∙ c.in-Some.is) in
     (search rules, f.0, c.requires.1, λ w. f.1 (c.wraps.ensures ∙ w))
 
-pub returns-in-None : goal.returns-in-None
+pub returns-in_default : goal.returns-in_default
 unfolding requested request_as forward_only
-returns-in-None c =
-    λ out. simp (c.unchanged.ensures.0, c.unchanged.ensures.1, sym c.wraps.ensures, sym c.forward.ensures ∙ c.in-None.is)
+returns-in_default c =
+    λ out. simp (c.unchanged.ensures.0, c.unchanged.ensures.1, sym c.wraps.ensures, sym c.forward.ensures ∙ c.in_default.is)
 
-pub returns-then-fits : goal.returns-then-fits
+pub returns-then-not-fits : goal.returns-then-not-fits
 unfolding requested request_as forward_only
-returns-then-fits c =
+returns-then-not-fits c =
     λ out.
     simp (
-      c.unchanged-then-fits.ensures.0,
-      c.unchanged-then-fits.ensures.1,
+      c.unchanged-then-not-fits.ensures.0,
+      c.unchanged-then-not-fits.ensures.1,
       sym c.wraps.ensures,
       sym c.forward.ensures ∙ c.in-Some.is,
-      sym c.fits.ensures ∙ c.if-fits.false,
+      sym c.fits.ensures ∙ c.if-not-fits.true,
     )
 
 pub returns : goal.returns
@@ -38,7 +38,7 @@ returns c =
     simp (
       sym c.wraps.ensures,
       sym c.forward.ensures ∙ c.in-Some.is,
-      sym c.fits.ensures ∙ c.if-fits.true,
+      sym c.fits.ensures ∙ c.if-not-fits.false,
       c.used.ensures,
       c.distance_to.ensures,
     )

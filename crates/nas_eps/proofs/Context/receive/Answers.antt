@@ -26,7 +26,6 @@ used-requires c =
 
 pub returns-in-Err : goal.returns-in-Err
 returns-in-Err c =
-    let a = c.args in
     missed _ _ _ _ _ _ _ c.in-Err.missed (sym c.verify.ensures.opening ∙ c.in-Err.is)
     (ap told_open c.unchanged.ensures.0 ∙ ap (λ (r : Refusal). Refused (number_of r)) c.from.ensures)
     c.unchanged.ensures.1 ((rw c.in-Err.is at c.verify.ensures.read) ∙ missed-reads (λ n. []) _ c.in-Err.missed)

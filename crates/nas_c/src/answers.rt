@@ -186,6 +186,15 @@ impl Shows for NoSuchWay {
     }
 }
 
+pub fn no_such_way<X>(context: X) -> Done<NoSuchWay, X>
+    ensures { result.context ≡ context }
+{
+    Done {
+        answer: NoSuchWay,
+        context,
+    }
+}
+
 impl<A: Shows> From<Done<A, nas_5gs::Context>> for Left {
     ghost from_gives = { λ done left. left ≡ record { answer = A.shows done.answer; context = done.context } };
 

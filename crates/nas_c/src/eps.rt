@@ -5,9 +5,8 @@ ghost use Rattle.nas_eps.specs.Leaves.{leaves, open_values};
 ghost use Rattle.nas_c.specs.Numbers.{no_direction};
 ghost use Rattle.nas_c.specs.EpsNumbers.{direction_of, shown_open, new_numbers, restore_numbers, reselect_numbers, window_numbers, next_count_number, seal_numbers, request_numbers, open_numbers};
 
-use crate::answers::{NoSuchWay, Shows};
+use crate::answers::{Shows, no_such_way};
 use crate::{EpsLeft, Shown};
-use nas_core::Done;
 use nas_eps::{Context, Direction, Opened};
 
 // The header type that stands for a SERVICE REQUEST.
@@ -111,10 +110,7 @@ pub extern "C" fn saihdelu_eps_seal(
     ensures { leaves result.answer result.context out.new ≡ seal_numbers context header_type direction inner.now out.old }
 {
     let Some(d) = direction_of(direction) else {
-        return EpsLeft::from(Done {
-            answer: NoSuchWay,
-            context,
-        });
+        return EpsLeft::from(no_such_way(context));
     };
     EpsLeft::from(context.seal(header_type, d, inner, out))
 }
@@ -140,10 +136,7 @@ pub extern "C" fn saihdelu_eps_open(
     ensures { leaves result.answer result.context out.new ≡ open_numbers context direction message.now out.old }
 {
     let Some(d) = direction_of(direction) else {
-        return EpsLeft::from(Done {
-            answer: NoSuchWay,
-            context,
-        });
+        return EpsLeft::from(no_such_way(context));
     };
     EpsLeft::from(context.open(d, message, out))
 }

@@ -3,10 +3,9 @@ ghost use Rattle.std.specs.Prelude.{◌≡◌};
 ghost use Rattle.nas_5gs.specs.Leaves.{leaves, leaves_two};
 ghost use Rattle.nas_c.specs.Numbers.{open_numbers, across_numbers, open_eps_numbers};
 
-use crate::answers::NoSuchWay;
+use crate::answers::no_such_way;
 use crate::{Left, Shown};
 use nas_5gs::Context;
-use nas_core::Done;
 
 #[unsafe(no_mangle)]
 pub extern "C" fn saihdelu_open(
@@ -20,10 +19,7 @@ pub extern "C" fn saihdelu_open(
     ensures { leaves_two result.answer result.context out.new second.new ≡ open_numbers context direction connection message.now out.old second.old }
 {
     let Some((d, k)) = crate::way_of(direction, connection) else {
-        return Left::from(Done {
-            answer: NoSuchWay,
-            context,
-        });
+        return Left::from(no_such_way(context));
     };
     Left::from(context.open(d, k, message, out, second))
 }
@@ -55,10 +51,7 @@ pub extern "C" fn saihdelu_open_across(
     ensures { leaves_two result.answer result.context out.new second.new ≡ across_numbers context direction connection message.now out.old second.old }
 {
     let Some((d, k)) = crate::way_of(direction, connection) else {
-        return Left::from(Done {
-            answer: NoSuchWay,
-            context,
-        });
+        return Left::from(no_such_way(context));
     };
     Left::from(handover::open_across(context, d, k, message, out, second))
 }

@@ -3,10 +3,9 @@ ghost use Rattle.std.specs.Prelude.{◌≡◌};
 ghost use Rattle.nas_5gs.specs.Leaves.{leaves};
 ghost use Rattle.nas_c.specs.Numbers.{seal_numbers, opaque_numbers, initial_numbers, seal_eps_numbers};
 
-use crate::answers::NoSuchWay;
+use crate::answers::no_such_way;
 use crate::{Left, Shown};
 use nas_5gs::Context;
-use nas_core::Done;
 
 #[unsafe(no_mangle)]
 pub extern "C" fn saihdelu_seal(
@@ -20,10 +19,7 @@ pub extern "C" fn saihdelu_seal(
     ensures { leaves result.answer result.context out.new ≡ seal_numbers context header_type direction connection inner.now out.old }
 {
     let Some((d, k)) = crate::way_of(direction, connection) else {
-        return Left::from(Done {
-            answer: NoSuchWay,
-            context,
-        });
+        return Left::from(no_such_way(context));
     };
     Left::from(context.seal(header_type, d, k, inner, out))
 }
@@ -54,10 +50,7 @@ pub extern "C" fn saihdelu_seal_opaque(
     ensures { leaves result.answer result.context out.new ≡ opaque_numbers context header_type direction connection inner.now out.old }
 {
     let Some((d, k)) = crate::way_of(direction, connection) else {
-        return Left::from(Done {
-            answer: NoSuchWay,
-            context,
-        });
+        return Left::from(no_such_way(context));
     };
     Left::from(context.seal_opaque(header_type, d, k, inner, out))
 }
@@ -72,10 +65,7 @@ pub extern "C" fn saihdelu_initial(
     ensures { leaves result.answer result.context out.new ≡ initial_numbers context connection whole.now out.old }
 {
     let Some(k) = crate::connection_of(connection) else {
-        return Left::from(Done {
-            answer: NoSuchWay,
-            context,
-        });
+        return Left::from(no_such_way(context));
     };
     Left::from(context.initial(k, whole, out))
 }

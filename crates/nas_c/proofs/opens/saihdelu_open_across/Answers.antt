@@ -6,7 +6,7 @@ use Rattle.nas_c.proofs.opens.saihdelu_open_across.Goals as goal
 pub returns-in_default : goal.returns-in_default
 unfolding across_numbers
 returns-in_default c =
-    simp (c.from.ensures, there_is_none _ _ c.way_of.ensures c.in_default.is)
+    simp (c.from.ensures, c.no_such_way.ensures, there_is_none _ _ c.way_of.ensures c.in_default.is)
 
 pub returns : goal.returns
 unfolding across_numbers

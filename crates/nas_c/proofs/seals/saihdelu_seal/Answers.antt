@@ -7,7 +7,7 @@ use Rattle.nas_c.proofs.seals.saihdelu_seal.Goals as goal
 pub returns-in_default : goal.returns-in_default
 unfolding seal_numbers
 returns-in_default c =
-    simp (c.from.ensures, there_is_none _ _ c.way_of.ensures c.in_default.is)
+    simp (c.from.ensures, c.no_such_way.ensures, there_is_none _ _ c.way_of.ensures c.in_default.is)
 
 pub returns : goal.returns
 unfolding seal_numbers

@@ -1,11 +1,11 @@
 // The EPS NAS security context and its calls. Every call takes the context by value and hands it back with its answer.
 #![tactic(auto)]
 
-ghost use Rattle.std.specs.Prelude.{◌≡◌, false, [], ◌∷◌, ◌+◌, ◌≤◌, ◌<◌};
+ghost use Rattle.std.specs.Prelude.{◌≡◌, false, ◌+◌, ◌≤◌, ◌<◌};
 ghost use Rattle.count.specs.Rule.{exhausted};
 ghost use Rattle.nas_core.specs.Keyed.{wraps};
 ghost use Rattle.refusals.specs.Numbers.{refused};
-ghost use Rattle.nas_eps.specs.Places.{place_of, record_at, with_record, fault_of, used, used_late};
+ghost use Rattle.nas_eps.specs.Places.{record_at, with_record, fault_of, used, used_late};
 
 mod change;
 mod octets;

@@ -1,4 +1,4 @@
-use Rattle.std.proofs.Common.{sym, ◌∙◌}
+use Rattle.std.proofs.Common.{sym}
 use Rattle.refusals.proofs.Laws.{number-not0}
 use Rattle.nas_eps.specs.Seal.{seal_of}
 use Rattle.nas_eps.proofs.Passed.{seal-passed}

@@ -1,4 +1,4 @@
-use Rattle.std.proofs.Common.{sym, ◌∙◌, rules}
+use Rattle.std.proofs.Common.{sym, rules}
 use Rattle.refusals.proofs.Laws.{number-not0}
 use Rattle.nas_eps.proofs.Passed.{request-passed}
 use Rattle.nas_eps.proofs.Lengths.{request-length}

@@ -1,4 +1,4 @@
-use Rattle.std.proofs.Common.{sym, ◌∙◌, rules}
+use Rattle.std.proofs.Common.{sym, rules}
 use Rattle.refusals.proofs.Laws.{number-not0}
 use borrow.Author.Tests.{lt-ltb, le-ltb}
 use Rattle.nas_eps.proofs.Passed.{fault-passed}

@@ -5,7 +5,7 @@ use Rattle.refusals.specs.declared.Refusal.{Refusal}
 use Rattle.refusals.specs.Numbers.{number_of}
 use Rattle.nas_core.specs.declared.Received.{Received}
 use Rattle.nas_core.specs.declared.Spent.{Spent}
-use Rattle.nas_core.specs.Leaves.{Leaves, leaves, Values, refusal}
+use Rattle.nas_core.specs.Leaves.{Leaves, leaves, refusal}
 use Rattle.nas_core.specs.ChangeAnswer.{ChangeAnswer, told_change}
 use Rattle.nas_core.specs.UseAnswer.{UseAnswer, told_use}
 use Rattle.nas_5gs.specs.Leaves.{LeavesTwo, leaves_two, change_values, use_values, open_values, eps_open_values, octet_values, verify_values}

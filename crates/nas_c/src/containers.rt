@@ -6,6 +6,7 @@ ghost use Rattle.nas_c.specs.Numbers.{n1_to_s1_numbers, verify_n1_to_s1_numbers,
 use crate::Left;
 use nas_5gs::Context;
 
+#[tactic(auto, unfolding(crate::specs::Numbers::n1_to_s1_numbers), using(crate::proofs::Answered::octet))]
 #[unsafe(no_mangle)]
 pub extern "C" fn saihdelu_n1_to_s1(context: Context) -> Left
     ensures { leaves result.answer result.context [] ≡ n1_to_s1_numbers context }
@@ -13,6 +14,7 @@ pub extern "C" fn saihdelu_n1_to_s1(context: Context) -> Left
     Left::from(context.n1_to_s1_container())
 }
 
+#[tactic(auto, unfolding(crate::specs::Numbers::verify_n1_to_s1_numbers), using(crate::proofs::Answered::verify))]
 #[unsafe(no_mangle)]
 pub extern "C" fn saihdelu_verify_n1_to_s1(context: Context, octet: u8) -> Left
     ensures { leaves result.answer result.context [] ≡ verify_n1_to_s1_numbers context octet }
@@ -20,6 +22,7 @@ pub extern "C" fn saihdelu_verify_n1_to_s1(context: Context, octet: u8) -> Left
     Left::from(context.verify_n1_to_s1_container(octet))
 }
 
+#[tactic(auto, unfolding(crate::specs::Numbers::s1_to_n1_numbers), using(crate::proofs::Answered::use_next))]
 #[unsafe(no_mangle)]
 pub extern "C" fn saihdelu_s1_to_n1(context: Context, ncc: u8, ngksi: u8, out: &mut [u8]) -> Left
     ensures { leaves result.answer result.context out.new ≡ s1_to_n1_numbers context ncc ngksi out.old }
@@ -27,6 +30,7 @@ pub extern "C" fn saihdelu_s1_to_n1(context: Context, ncc: u8, ngksi: u8, out: &
     Left::from(context.s1_to_n1_container(ncc, ngksi, out))
 }
 
+#[tactic(auto, unfolding(crate::specs::Numbers::verify_s1_to_n1_numbers), using(crate::proofs::Answered::use_next))]
 #[unsafe(no_mangle)]
 pub extern "C" fn saihdelu_verify_s1_to_n1(context: Context, value: &[u8]) -> Left
     ensures { leaves result.answer result.context [] ≡ verify_s1_to_n1_numbers context value.now }

@@ -1,8 +1,0 @@
-use Rattle.nas_c.specs.Numbers.{verify_s1_to_n1_numbers}
-use Rattle.nas_c.proofs.Answered.{use_next}
-use Rattle.nas_c.proofs.containers.saihdelu_verify_s1_to_n1.Goals as goal
-
-pub returns : goal.returns
-unfolding verify_s1_to_n1_numbers
-returns c =
-    rw c.from.ensures (use_next _ c.verify_s1_to_n1_container.ensures)

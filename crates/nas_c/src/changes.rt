@@ -6,6 +6,7 @@ ghost use Rattle.nas_c.specs.Numbers.{new_numbers, restore_numbers, reselect_num
 use crate::{Left, Shown};
 use nas_5gs::Context;
 
+#[tactic(auto, unfolding(crate::specs::Numbers::new_numbers), using(crate::proofs::Answered::change))]
 #[unsafe(no_mangle)]
 pub extern "C" fn saihdelu_new(
     integrity: u8,
@@ -19,6 +20,7 @@ pub extern "C" fn saihdelu_new(
 }
 
 // The next COUNTs: uplink and downlink of 3GPP access, then of non-3GPP access.
+#[tactic(auto, unfolding(crate::specs::Numbers::restore_numbers), using(crate::proofs::Answered::change))]
 #[unsafe(no_mangle)]
 pub extern "C" fn saihdelu_restore(
     integrity: u8,
@@ -41,6 +43,7 @@ pub extern "C" fn saihdelu_restore(
     Left::from(Context::restore(integrity, ciphering, *integrity_key, *ciphering_key, next))
 }
 
+#[tactic(auto, unfolding(crate::specs::Numbers::reselect_numbers), using(crate::proofs::Answered::change))]
 #[unsafe(no_mangle)]
 pub extern "C" fn saihdelu_reselect(
     context: Context,
@@ -54,6 +57,7 @@ pub extern "C" fn saihdelu_reselect(
     Left::from(context.reselect(integrity, ciphering, *integrity_key, *ciphering_key))
 }
 
+#[tactic(auto, unfolding(crate::specs::Numbers::window_numbers), using(crate::proofs::Answered::change))]
 #[unsafe(no_mangle)]
 pub extern "C" fn saihdelu_set_window(context: Context, size: u8) -> Left
     ensures { leaves result.answer result.context [] ≡ window_numbers context size }

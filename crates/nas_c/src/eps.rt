@@ -46,6 +46,7 @@ impl Shows for Opened {
     }
 }
 
+#[tactic(auto, unfolding(crate::specs::EpsNumbers::new_numbers), using(crate::proofs::Answered::eps_change))]
 #[unsafe(no_mangle)]
 pub extern "C" fn saihdelu_eps_new(
     integrity: u8,
@@ -58,6 +59,7 @@ pub extern "C" fn saihdelu_eps_new(
     EpsLeft::from(Context::new(integrity, ciphering, *integrity_key, *ciphering_key))
 }
 
+#[tactic(auto, unfolding(crate::specs::EpsNumbers::restore_numbers), using(crate::proofs::Answered::eps_change))]
 #[unsafe(no_mangle)]
 pub extern "C" fn saihdelu_eps_restore(
     integrity: u8,
@@ -79,6 +81,7 @@ pub extern "C" fn saihdelu_eps_restore(
     ))
 }
 
+#[tactic(auto, unfolding(crate::specs::EpsNumbers::reselect_numbers), using(crate::proofs::Answered::eps_change))]
 #[unsafe(no_mangle)]
 pub extern "C" fn saihdelu_eps_reselect(
     context: Context,
@@ -92,6 +95,7 @@ pub extern "C" fn saihdelu_eps_reselect(
     EpsLeft::from(context.reselect(integrity, ciphering, *integrity_key, *ciphering_key))
 }
 
+#[tactic(auto, unfolding(crate::specs::EpsNumbers::window_numbers), using(crate::proofs::Answered::eps_change))]
 #[unsafe(no_mangle)]
 pub extern "C" fn saihdelu_eps_set_window(context: Context, size: u8) -> EpsLeft
     ensures { leaves result.answer result.context [] ≡ window_numbers context size }
@@ -115,6 +119,7 @@ pub extern "C" fn saihdelu_eps_seal(
     EpsLeft::from(context.seal(header_type, d, inner, out))
 }
 
+#[tactic(auto, unfolding(crate::specs::EpsNumbers::request_numbers), using(crate::proofs::Answered::eps_use))]
 #[unsafe(no_mangle)]
 pub extern "C" fn saihdelu_eps_service_request(
     context: Context,

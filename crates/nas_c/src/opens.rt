@@ -70,6 +70,7 @@ pub extern "C" fn saihdelu_open_across_in_place(
     saihdelu_open_across(*context, direction, connection, message, out, second).keep(context)
 }
 
+#[tactic(auto, unfolding(crate::specs::Numbers::open_eps_numbers), using(crate::proofs::Answered::open_eps))]
 #[unsafe(no_mangle)]
 pub extern "C" fn saihdelu_open_eps_message(
     context: Context,

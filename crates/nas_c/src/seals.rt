@@ -70,6 +70,7 @@ pub extern "C" fn saihdelu_initial(
     Left::from(context.initial(k, whole, out))
 }
 
+#[tactic(auto, unfolding(crate::specs::Numbers::seal_eps_numbers), using(crate::proofs::Answered::use_next))]
 #[unsafe(no_mangle)]
 pub extern "C" fn saihdelu_seal_eps_message(context: Context, inner: &[u8], out: &mut [u8]) -> Left
     ensures { leaves result.answer result.context out.new ≡ seal_eps_numbers context inner.now out.old }

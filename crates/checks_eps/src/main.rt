@@ -1,9 +1,11 @@
 // Runs request 6's session over the calls of the EPS context, and messages at the limit, and prints each answer as the request's hex lines do.
 #![tactic(auto)]
 
-use nas_eps::{
-    ChangeAnswer, ChangeDone, Context, Direction, OpenAnswer, OpenDone, UseAnswer, UseDone,
-};
+ghost use Rattle.std.specs.Prelude.{◌≤◌};
+
+use nas_core::{Done, Received, Spent};
+use nas_eps::{Context, Direction, Opened};
+use refusals::Refusal;
 
 const INTEGRITY_KEY: [u8; 16] = [0, 1, 2, 3, 4, 5, 6, 7, 8, 9, 10, 11, 12, 13, 14, 15];
 
@@ -11,51 +13,47 @@ const CIPHERING_KEY: [u8; 16] = [
     16, 17, 18, 19, 20, 21, 22, 23, 24, 25, 26, 27, 28, 29, 30, 31,
 ];
 
-fn refused(number: u8) {
-    io::write_all(1, b"no ");
-    io::print_decimal(1, number as u64);
-    io::write_all(1, b"\n");
+fn refused(refusal: Refusal) {
+    tell(b"no ", refusal.number());
 }
 
-fn word(n: u64, digits: usize) {
+fn word(n: impl Into<u64>, digits: usize) {
     io::write_all(1, b" ");
-    io::print_hex(1, n, digits);
+    io::print_hex(1, n.into(), digits);
 }
 
 // Octets after a space, `-` for none, and the end of the line.
 fn octets(written: &[u8]) {
-    if written.len() == 0 {
+    if written.is_empty() {
         io::write_all(1, b" -\n");
         return;
     }
     if 64 < written.len() {
         return;
     }
-    let mut text = [0u8; 128];
+    let mut text = [0; 128];
     let n = hex_lines::put_octets(written, &mut text, 0);
     io::write_all(1, b" ");
     io::write_all(1, hex_lines::front(&text, n));
     io::write_all(1, b"\n");
 }
 
-fn changed(done: ChangeDone) -> Context {
-    let answer = done.answer;
-    match answer {
-        ChangeAnswer::Refused(number) => refused(number),
-        ChangeAnswer::Done => {
+fn changed(done: Done<Result<(), Refusal>, Context>) -> Context {
+    match done.answer {
+        Err(refusal) => refused(refusal),
+        Ok(()) => {
             io::write_all(1, b"ok\n");
         }
     }
     done.context
 }
 
-fn used(done: UseDone, out: &[u8]) -> Context {
-    let answer = done.answer;
-    match answer {
-        UseAnswer::Refused(number) => refused(number),
-        UseAnswer::Used { count, wrote } => {
+fn used(done: Done<Result<Spent, Refusal>, Context>, out: &[u8]) -> Context {
+    match done.answer {
+        Err(refusal) => refused(refusal),
+        Ok(Spent { count, wrote }) => {
             io::write_all(1, b"ok");
-            word(count as u64, 8);
+            word(count, 8);
             word(wrote as u64, 4);
             octets(hex_lines::front(out, wrote));
         }
@@ -63,33 +61,38 @@ fn used(done: UseDone, out: &[u8]) -> Context {
     done.context
 }
 
-fn opened(done: OpenDone, out: &[u8]) -> Context {
-    let answer = done.answer;
-    match answer {
-        OpenAnswer::Refused(number) => refused(number),
-        OpenAnswer::Accepted {
-            count,
-            distance,
-            wrote,
-            header_type,
-        } => {
+fn opened(done: Done<Result<Opened, Refusal>, Context>, out: &[u8]) -> Context {
+    match done.answer {
+        Err(refusal) => refused(refusal),
+        Ok(
+            Opened::Message(
+                Received {
+                    count,
+                    distance,
+                    wrote,
+                    header_type,
+                },
+            ),
+        ) => {
             io::write_all(1, b"ok");
-            word(count as u64, 8);
-            word(distance as u64, 8);
+            word(count, 8);
+            word(distance, 8);
             word(wrote as u64, 4);
-            word(header_type as u64, 2);
+            word(header_type, 2);
             octets(hex_lines::front(out, wrote));
         }
-        OpenAnswer::ServiceRequest {
-            count,
-            distance,
-            identifier,
-        } => {
+        Ok(
+            Opened::ServiceRequest {
+                count,
+                distance,
+                identifier,
+            },
+        ) => {
             io::write_all(1, b"ok");
-            word(count as u64, 8);
-            word(distance as u64, 8);
+            word(count, 8);
+            word(distance, 8);
             io::write_all(1, b" 0000 0c");
-            word(identifier as u64, 2);
+            word(identifier, 2);
             octets(&[]);
         }
     }
@@ -102,7 +105,7 @@ fn fresh() -> Context {
 
 // What one end seals.
 fn sealed(context: Context) {
-    let mut out = [0u8; 16];
+    let mut out = [0; 16];
     let first = used(
         context.seal(2, Direction::Uplink, b"\x07\x48\xaa", &mut out),
         &out,
@@ -114,85 +117,54 @@ fn sealed(context: Context) {
 }
 
 // What the other opens: SERVICE REQUEST 2, the message late, SERVICE REQUEST 1 too late, downlink, and short; a message of nothing.
-fn received(context: Context) {
-    let mut out = [0u8; 16];
-    let first = opened(
-        context.open(Direction::Uplink, b"\xc7\xa2\xb2\xd0", &mut out),
-        &out,
-    );
-    let second = opened(
-        first.open(
-            Direction::Uplink,
-            b"\x27\x15\x41\x53\xa7\x00\xea\xeb\x9a",
-            &mut out,
-        ),
-        &out,
-    );
-    let third = opened(
-        second.open(Direction::Uplink, b"\xc7\xa1\x4b\x16", &mut out),
-        &out,
-    );
-    let fourth = opened(
-        third.open(Direction::Downlink, b"\xc7\xa1\x4b\x16", &mut out),
-        &out,
-    );
-    let fifth = opened(
-        fourth.open(Direction::Downlink, b"\xc7\xa1\x4b", &mut out),
-        &out,
-    );
-    opened(
-        fifth.open(Direction::Downlink, b"\x17\x52\xca\x1c\x90\x00", &mut out),
-        &out,
-    );
-}
-
-fn use_number(done: UseDone) -> u8 {
-    let answer = done.answer;
-    match answer {
-        UseAnswer::Refused(number) => number,
-        UseAnswer::Used { count: _, wrote: _ } => 0,
+fn received(mut context: Context) {
+    let messages: [(Direction, &[u8]); 6] = [
+        (Direction::Uplink, b"\xc7\xa2\xb2\xd0"),
+        (Direction::Uplink, b"\x27\x15\x41\x53\xa7\x00\xea\xeb\x9a"),
+        (Direction::Uplink, b"\xc7\xa1\x4b\x16"),
+        (Direction::Downlink, b"\xc7\xa1\x4b\x16"),
+        (Direction::Downlink, b"\xc7\xa1\x4b"),
+        (Direction::Downlink, b"\x17\x52\xca\x1c\x90\x00"),
+    ];
+    let mut out = [0; 16];
+    for (direction, message) in messages {
+        context = opened(context.open(direction, message, &mut out), &out);
     }
 }
 
-fn open_number(done: OpenDone) -> u8 {
-    let answer = done.answer;
+fn number<A: Copy>(answer: Result<A, Refusal>) -> u8 {
     match answer {
-        OpenAnswer::Refused(number) => number,
-        _ => 0,
+        Ok(_) => 0,
+        Err(refusal) => refusal.number(),
     }
 }
 
 fn tell(what: &[u8], number: u8) {
     io::write_all(1, what);
-    io::print_decimal(1, number as u64);
+    io::print_decimal(1, u64::from(number));
     io::write_all(1, b"\n");
-}
-
-fn long_sealed(context: Context, inner: &[u8], message: &mut [u8]) {
-    let done = context.seal(2, Direction::Downlink, inner, message);
-    tell(b"seal: ", use_number(done));
-    octets(hex_lines::front(message, 10));
 }
 
 fn long_opened(context: Context, message: &[u8], plain: &mut [u8]) {
     let done = context.open(Direction::Downlink, message, plain);
-    tell(b"open: ", open_number(done));
+    tell(b"open: ", number(done.answer));
     octets(hex_lines::front(plain, 4));
 }
 
 // A ciphered message of n octets sealed, opened, and opened with room for 65,534.
-fn at_limit(context: Context, n: usize) {
-    let inner = [0x5au8; 65543];
-    let mut message = [0u8; 65543];
+fn at_limit(context: Context, n: usize)
+    requires { n ≤ 65536 }
+{
+    let inner = [0x5a; 65543];
+    let mut message = [0; 65543];
     message[0] = 0x27;
-    long_sealed(context, hex_lines::front(&inner, n), &mut message);
-    let mut plain = [0u8; 65543];
-    let mut short = [0u8; 65534];
-    if 65536 < n {
-        return;
-    }
-    long_opened(context, hex_lines::front(&message, n + 6), &mut plain);
-    long_opened(context, hex_lines::front(&message, n + 6), &mut short);
+    let done = context.seal(2, Direction::Downlink, &inner[..n], &mut message);
+    tell(b"seal: ", number(done.answer));
+    octets(&message[..10]);
+    let mut plain = [0; 65543];
+    let mut short = [0; 65534];
+    long_opened(context, &message[..n + 6], &mut plain);
+    long_opened(context, &message[..n + 6], &mut short);
 }
 
 fn main() {

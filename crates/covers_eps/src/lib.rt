@@ -3,18 +3,23 @@
 #![tactic(auto)]
 
 ghost use Rattle.std.specs.Prelude.{◌≡◌, []};
+ghost use Rattle.nas_core.specs.ChangeAnswer.{told_change};
+ghost use Rattle.nas_core.specs.UseAnswer.{told_use};
+ghost use Rattle.nas_eps.specs.OpenAnswer.{told_open};
 ghost use Rattle.nas_eps.specs.Leaves.{leaves, change_values, use_values, open_values};
 ghost use Rattle.promises_eps.specs.Calls.{set_window, reselect, seal_message, seal_request, open_message, create, restore, next_count, window, integrity, ciphering, outcome, gives, makes, reads};
 
-use nas_eps::{ChangeDone, Context, Direction, OpenDone, UseDone};
+use nas_core::{Done, Spent};
+use nas_eps::{Context, Direction, Opened};
+use refusals::Refusal;
 
 pub fn create(
     integrity: u8,
     ciphering: u8,
     integrity_key: [u8; 16],
     ciphering_key: [u8; 16],
-) -> ChangeDone
-    ensures { outcome change_values (leaves result.answer result.context []) ≡ makes (create integrity ciphering integrity_key ciphering_key) }
+) -> Done<Result<(), Refusal>, Context>
+    ensures { outcome change_values (leaves (told_change result.answer) result.context []) ≡ makes (create integrity ciphering integrity_key ciphering_key) }
 {
     Context::new(integrity, ciphering, integrity_key, ciphering_key)
 }
@@ -26,8 +31,8 @@ pub fn restore(
     ciphering_key: [u8; 16],
     up: u32,
     down: u32,
-) -> ChangeDone
-    ensures { outcome change_values (leaves result.answer result.context []) ≡ makes (restore integrity ciphering integrity_key ciphering_key up down) }
+) -> Done<Result<(), Refusal>, Context>
+    ensures { outcome change_values (leaves (told_change result.answer) result.context []) ≡ makes (restore integrity ciphering integrity_key ciphering_key up down) }
 {
     Context::restore(integrity, ciphering, integrity_key, ciphering_key, up, down)
 }
@@ -38,14 +43,14 @@ pub fn reselect(
     ciphering: u8,
     integrity_key: [u8; 16],
     ciphering_key: [u8; 16],
-) -> ChangeDone
-    ensures { outcome change_values (leaves result.answer result.context []) ≡ gives (reselect integrity ciphering integrity_key ciphering_key) context }
+) -> Done<Result<(), Refusal>, Context>
+    ensures { outcome change_values (leaves (told_change result.answer) result.context []) ≡ gives (reselect integrity ciphering integrity_key ciphering_key) context }
 {
     context.reselect(integrity, ciphering, integrity_key, ciphering_key)
 }
 
-pub fn set_window(context: Context, size: u8) -> ChangeDone
-    ensures { outcome change_values (leaves result.answer result.context []) ≡ gives (set_window size) context }
+pub fn set_window(context: Context, size: u8) -> Done<Result<(), Refusal>, Context>
+    ensures { outcome change_values (leaves (told_change result.answer) result.context []) ≡ gives (set_window size) context }
 {
     context.set_window(size)
 }
@@ -56,14 +61,18 @@ pub fn seal_message(
     direction: Direction,
     inner: &[u8],
     out: &mut [u8],
-) -> UseDone
-    ensures { outcome use_values (leaves result.answer result.context out.new) ≡ gives (seal_message header_type direction inner.now out.old) context }
+) -> Done<Result<Spent, Refusal>, Context>
+    ensures { outcome use_values (leaves (told_use result.answer) result.context out.new) ≡ gives (seal_message header_type direction inner.now out.old) context }
 {
     context.seal(header_type, direction, inner, out)
 }
 
-pub fn seal_request(context: Context, identifier: u8, out: &mut [u8]) -> UseDone
-    ensures { outcome use_values (leaves result.answer result.context out.new) ≡ gives (seal_request identifier out.old) context }
+pub fn seal_request(
+    context: Context,
+    identifier: u8,
+    out: &mut [u8],
+) -> Done<Result<Spent, Refusal>, Context>
+    ensures { outcome use_values (leaves (told_use result.answer) result.context out.new) ≡ gives (seal_request identifier out.old) context }
 {
     context.service_request(identifier, out)
 }
@@ -73,8 +82,8 @@ pub fn open_message(
     direction: Direction,
     message: &[u8],
     out: &mut [u8],
-) -> OpenDone
-    ensures { outcome open_values (leaves result.answer result.context out.new) ≡ gives (open_message direction message.now out.old) context }
+) -> Done<Result<Opened, Refusal>, Context>
+    ensures { outcome open_values (leaves (told_open result.answer) result.context out.new) ≡ gives (open_message direction message.now out.old) context }
 {
     context.open(direction, message, out)
 }

@@ -1,7 +1,9 @@
 // The example of README.md, which quotes `send` and `main` as they stand here: two messages sealed for the air.
 #![tactic(auto)]
 
-use nas_5gs::{ChangeAnswer, Connection, Context, Direction, UseAnswer};
+use nas_5gs::{Connection, Context, Direction};
+use nas_core::{Done, Spent};
+use refusals::Refusal;
 
 const INTEGRITY_KEY: [u8; 16] = [0, 1, 2, 3, 4, 5, 6, 7, 8, 9, 10, 11, 12, 13, 14, 15];
 
@@ -11,48 +13,41 @@ const CIPHERING_KEY: [u8; 16] = [
 
 // Stands for the radio: prints the octets in hex.
 fn transmit(octets: &[u8]) {
-    if 64 < octets.len() {
-        return;
+    for octet in octets {
+        io::print_hex(1, u64::from(*octet), 2);
     }
-    let mut text = [0u8; 128];
-    let n = hex_lines::put_octets(octets, &mut text, 0);
-    io::write_all(1, &text[..n]);
     io::write_all(1, b"\n");
 }
 
-fn report(number: u8) {
+fn report(refusal: Refusal) {
     io::write_all(1, b"refused: ");
-    io::print_decimal(1, number as u64);
+    io::print_decimal(1, u64::from(refusal.number()));
     io::write_all(1, b"\n");
 }
 
 fn send(context: Context, inner: &[u8]) -> Context {
     let mut out = [0u8; 64];
-    let sent = context.seal(
+    let Done { answer, context } = context.seal(
         2,
         Direction::Downlink,
         Connection::ThreeGpp,
         inner,
         &mut out,
     );
-    let next = sent.context;
-    let answer = sent.answer;
     match answer {
-        UseAnswer::Used { count: _, wrote } => transmit(&out[..wrote]),
-        UseAnswer::Refused(number) => report(number),
+        Ok(Spent { wrote, .. }) => transmit(&out[..wrote]),
+        Err(refusal) => report(refusal),
     }
-    next
+    context
 }
 
 fn main() {
-    let made = Context::new(2, 2, INTEGRITY_KEY, CIPHERING_KEY); // 128-NIA2, 128-NEA2
-    let first = made.context;
-    let answer = made.answer;
+    let Done { answer, context } = Context::new(2, 2, INTEGRITY_KEY, CIPHERING_KEY); // 128-NIA2, 128-NEA2
     match answer {
-        ChangeAnswer::Refused(number) => report(number),
-        ChangeAnswer::Done => {
-            let second = send(first, b"\x7e\x00\x64\x16");
-            send(second, b"\x7e\x00\x64\x16");
+        Err(refusal) => report(refusal),
+        Ok(()) => {
+            let context = send(context, b"\x7e\x00\x64\x16");
+            send(context, b"\x7e\x00\x64\x16");
         }
     }
 }

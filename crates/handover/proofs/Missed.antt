@@ -102,20 +102,19 @@ module _ (x : Context) (d : Direction) (k j : Connection) (n : ℕ) (m out secon
 
 -- this one, or elsewhere
 module _ (x : Context) (d : Direction) (k : Connection) (m out second : List ℕ) (a : OpenAnswer) (y : Context) (o o2 : List ℕ)
-    (e : leaves_two a y o o2 ≡ open_of x d k m out second) (n : ℕ) (number : n ≡ number_of a) (b : Bool) (tried : b ≡ not (wraps x.core) && is_missed n) where
-  test : not (wraps x.core) && is_missed (number_of a) ≡ b
-  test = ap (λ i. not (wraps x.core) && is_missed i) (sym number) ∙ sym tried
-
-  pub this-one : b ≡ false → leaves_across k a y o o2 ≡ across_of x d k m out second
+    (e : leaves_two a y o o2 ≡ open_of x d k m out second) where
+  pub under-null : wraps x.core ≡ true → leaves_across k a y o o2 ≡ across_of x d k m out second
   unfolding across_of
-  this-one h = rw (sym e) (simp (test ∙ h))
+  under-null w = rw (sym e) (simp w)
 
-  right : (p q : Bool) → p && q ≡ true → q ≡ true
-  right true q h = h
-  right false q h = absurd (let z : ◌≡◌ {A = ℕ} 0 1 = cc in omega arith)
-
-  pub not-this : (r : LeavesAcross) → b ≡ true → r ≡ elsewhere_of x d k n m o o2 → r ≡ across_of x d k m out second
+  pub this-one : is_missed (number_of a) ≡ false → leaves_across k a y o o2 ≡ across_of x d k m out second
   unfolding across_of
-  not-this r h f =
-      let q = outputs x d k m out second a y o o2 e (right (not (wraps x.core)) (is_missed (number_of a)) (test ∙ h)) in
-      rw (sym e) (simp (test ∙ h) (f ∙ rw (number, q.first, q.beside') refl))
+  this-one h = rw (sym e) (elim (wraps x.core) [ true ↦ refl | false ↦ simp h ])
+
+  pub not-this : (n : ℕ) → n ≡ number_of a → is_missed n ≡ true → wraps x.core ≡ false
+      → (r : LeavesAcross) → r ≡ elsewhere_of x d k n m o o2 → r ≡ across_of x d k m out second
+  unfolding across_of
+  not-this n number h w r f =
+      let there : is_missed (number_of a) ≡ true = ap is_missed (sym number) ∙ h in
+      let q = outputs x d k m out second a y o o2 e there in
+      rw (sym e) (simp (w, there) (f ∙ rw (number, q.first, q.beside') refl))

@@ -1,24 +1,20 @@
 // Late messages survive a handover between accesses: a message sealed on one connection that arrives on the other is opened on the one that sealed it.
 #![tactic(auto)]
 
-ghost use Rattle.std.specs.Prelude.{◌≡◌, not, ◌&&◌};
-ghost use Rattle.nas_core.specs.Keyed.{wraps};
+ghost use Rattle.std.specs.Prelude.{◌≡◌, ◌×◌, true, false, IfSome, IfNone};
+ghost use Rattle.refusals.specs.Numbers.{number_of as number};
+ghost use Rattle.nas_5gs.specs.OpenAnswer.{told_open};
 ghost use Rattle.handover.specs.Across.{other, number_of, is_missed, both_of, leaves_across, elsewhere_of, across_of};
 
-use nas_5gs::{Connection, Context, Direction, OpenAnswer};
-use nas_core::Core;
+use nas_5gs::{Connection, Context, Direction, OpenError, Opened};
+use nas_core::{Done, Received};
+use refusals::Refusal;
 
 // `connection` is the one that the message was taken on, or arrived on if it is refused; `answer` is what `open` answers there.
 #[derive(Clone, Copy)]
 pub struct AcrossAnswer {
     pub connection: Connection,
-    pub answer: OpenAnswer,
-}
-
-#[derive(Clone, Copy)]
-pub struct AcrossDone {
-    pub answer: AcrossAnswer,
-    pub context: Context,
+    pub answer: Result<Opened, OpenError<Received>>,
 }
 
 fn other(connection: Connection) -> Connection
@@ -30,89 +26,68 @@ fn other(connection: Connection) -> Connection
     }
 }
 
-fn number_of(answer: OpenAnswer) -> u8
-    ensures { result ≡ number_of answer }
+// The refusal of an open that found no COUNT in the record that it tried.
+#[tactic(auto, unfolding(crate::specs::Across::is_missed))]
+fn missed(answer: Result<Opened, OpenError<Received>>) -> Option<Refusal>
+    ensures some { IfSome result (λ r. (number r ≡ number_of (told_open answer)) × (is_missed (number r) ≡ true)) }
+    ensures none { IfNone result (is_missed (number_of (told_open answer)) ≡ false) }
 {
     match answer {
-        OpenAnswer::Refused(n) => n,
-        OpenAnswer::Accepted {
-            count: _,
-            distance: _,
-            wrote: _,
-            header_type: _,
-            second: _,
-        } => 0,
-        OpenAnswer::Content {
-            count: _,
-            distance: _,
-            wrote: _,
-            header_type: _,
-            number: _,
-        } => 0,
+        Err(OpenError::Refused(Refusal::NoCount)) => Some(Refusal::NoCount),
+        Err(OpenError::Refused(Refusal::WrongCode)) => Some(Refusal::WrongCode),
+        _ => None,
     }
 }
 
-fn is_missed(n: u8) -> bool
-    ensures { result ≡ is_missed n }
+#[tactic(auto, unfolding(crate::specs::Across::both_of))]
+fn both_of(here: Refusal, there: Refusal) -> Refusal
+    ensures { number result ≡ both_of (number here) (number there) }
 {
-    if n == 6 {
-        return true;
+    match (here, there) {
+        (Refusal::NoCount, Refusal::NoCount) => Refusal::NoCount,
+        _ => Refusal::WrongCode,
     }
-    n == 7
 }
 
-fn both_of(n: u8, m: u8) -> u8
-    ensures { result ≡ both_of n m }
+// What an open on a connection leaves, with the connection.
+fn on(
+    connection: Connection,
+    done: Done<Result<Opened, OpenError<Received>>, Context>,
+) -> Done<AcrossAnswer, Context>
+    ensures { (result.answer.connection ≡ connection) × (result.answer.answer ≡ done.answer) × (result.context ≡ done.context) }
 {
-    if n == 6 {
-        if m == 6 {
-            return 6;
-        }
+    Done {
+        answer: AcrossAnswer {
+            connection,
+            answer: done.answer,
+        },
+        context: done.context,
     }
-    7
 }
 
-// Under null integrity no code tells the connections apart.
-fn tries_other(core: Core, n: u8) -> bool
-    ensures { result ≡ not (wraps core) && is_missed n }
-{
-    if core.wraps() {
-        return false;
-    }
-    is_missed(n)
-}
-
-// The other connection, where this one refuses with n.
+// The other connection, where this one refuses.
 fn elsewhere(
     context: Context,
     direction: Direction,
     connection: Connection,
-    n: u8,
+    refusal: Refusal,
     message: &[u8],
     out: &mut [u8],
     second: &mut [u8],
-) -> AcrossDone
-    ensures { leaves_across result.answer.connection result.answer.answer result.context out.new second.new ≡ elsewhere_of context direction connection n message.now out.old second.old }
+) -> Done<AcrossAnswer, Context>
+    ensures { leaves_across result.answer.connection (told_open result.answer.answer) result.context out.new second.new ≡ elsewhere_of context direction connection (number refusal) message.now out.old second.old }
 {
     let k = other(connection);
     let there = context.open(direction, k, message, out, second);
-    let answer = there.answer;
-    let after = there.context;
-    let number = number_of(answer);
-    if is_missed(number) {
-        let answer = AcrossAnswer {
-            connection,
-            answer: OpenAnswer::Refused(both_of(n, number)),
-        };
-        return AcrossDone { answer, context };
-    }
-    let taken = AcrossAnswer {
-        connection: k,
-        answer,
-    };
-    AcrossDone {
-        answer: taken,
-        context: after,
+    match missed(there.answer) {
+        None => on(k, there),
+        Some(other) => Done {
+            answer: AcrossAnswer {
+                connection,
+                answer: Err(OpenError::Refused(both_of(refusal, other))),
+            },
+            context,
+        },
     }
 }
 
@@ -124,21 +99,19 @@ pub fn open_across(
     message: &[u8],
     out: &mut [u8],
     second: &mut [u8],
-) -> AcrossDone
-    ensures { leaves_across result.answer.connection result.answer.answer result.context out.new second.new ≡ across_of context direction connection message.now out.old second.old }
+) -> Done<AcrossAnswer, Context>
+    ensures { leaves_across result.answer.connection (told_open result.answer.answer) result.context out.new second.new ≡ across_of context direction connection message.now out.old second.old }
 {
     let here = context.open(direction, connection, message, out, second);
-    let answer = here.answer;
-    let after = here.context;
-    let core = context.core;
-    let n = number_of(answer);
-    if tries_other(core, n) {
-        return elsewhere(context, direction, connection, n, message, out, second);
+    // Under null integrity no code tells the connections apart.
+    if context.core.wraps() {
+        return on(connection, here);
     }
-    let taken = AcrossAnswer { connection, answer };
-    AcrossDone {
-        answer: taken,
-        context: after,
+    match missed(here.answer) {
+        None => on(connection, here),
+        Some(refusal) => elsewhere(
+            context, direction, connection, refusal, message, out, second,
+        ),
     }
 }
 
@@ -151,11 +124,9 @@ pub fn open_across_in_place(
     out: &mut [u8],
     second: &mut [u8],
 ) -> AcrossAnswer
-    ensures { leaves_across result.connection result.answer context.new out.new second.new ≡ across_of context.old direction connection message.now out.old second.old }
+    ensures { leaves_across result.connection (told_open result.answer) context.new out.new second.new ≡ across_of context.old direction connection message.now out.old second.old }
 {
-    let before = *context;
-    let done = open_across(before, direction, connection, message, out, second);
-    let after = done.context;
-    *context = after;
+    let done = open_across(*context, direction, connection, message, out, second);
+    *context = done.context;
     done.answer
 }

@@ -4,20 +4,23 @@
 #![tactic(auto)]
 
 ghost use Rattle.std.specs.Prelude.{◌≡◌, []};
+ghost use Rattle.nas_core.specs.ChangeAnswer.{told_change};
+ghost use Rattle.nas_core.specs.UseAnswer.{told_use};
+ghost use Rattle.nas_5gs.specs.OpenAnswer.{told_open};
 ghost use Rattle.nas_5gs.specs.Leaves.{leaves, leaves_two};
 ghost use Rattle.nas_5gs.specs.Changes.{window_of};
 ghost use Rattle.nas_5gs.specs.Seal.{seal_of};
 ghost use Rattle.nas_5gs.specs.Open.{open_of};
 
-use nas_5gs::{ChangeAnswer, Connection, Context, Direction, OpenAnswer, UseAnswer};
+use nas_5gs::{Connection, Context, Direction, OpenError, Opened};
+use nas_core::{Received, Spent};
+use refusals::Refusal;
 
-pub fn set_window(context: &mut Context, size: u8) -> ChangeAnswer
-    ensures { leaves result context.new [] ≡ window_of context.old size }
+pub fn set_window(context: &mut Context, size: u8) -> Result<(), Refusal>
+    ensures { leaves (told_change result) context.new [] ≡ window_of context.old size }
 {
-    let before = *context;
-    let done = before.set_window(size);
-    let after = done.context;
-    *context = after;
+    let done = context.set_window(size);
+    *context = done.context;
     done.answer
 }
 
@@ -28,13 +31,11 @@ pub fn seal(
     connection: Connection,
     inner: &[u8],
     out: &mut [u8],
-) -> UseAnswer
-    ensures { leaves result context.new out.new ≡ seal_of context.old header_type direction connection inner.now out.old }
+) -> Result<Spent, Refusal>
+    ensures { leaves (told_use result) context.new out.new ≡ seal_of context.old header_type direction connection inner.now out.old }
 {
-    let before = *context;
-    let done = before.seal(header_type, direction, connection, inner, out);
-    let after = done.context;
-    *context = after;
+    let done = context.seal(header_type, direction, connection, inner, out);
+    *context = done.context;
     done.answer
 }
 
@@ -45,12 +46,10 @@ pub fn open(
     message: &[u8],
     out: &mut [u8],
     second: &mut [u8],
-) -> OpenAnswer
-    ensures { leaves_two result context.new out.new second.new ≡ open_of context.old direction connection message.now out.old second.old }
+) -> Result<Opened, OpenError<Received>>
+    ensures { leaves_two (told_open result) context.new out.new second.new ≡ open_of context.old direction connection message.now out.old second.old }
 {
-    let before = *context;
-    let done = before.open(direction, connection, message, out, second);
-    let after = done.context;
-    *context = after;
+    let done = context.open(direction, connection, message, out, second);
+    *context = done.context;
     done.answer
 }

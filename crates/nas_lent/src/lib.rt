@@ -3,56 +3,49 @@
 #![tactic(auto)]
 
 ghost use Rattle.std.specs.Prelude.{◌≡◌, []};
+ghost use Rattle.nas_core.specs.ChangeAnswer.{told_change};
+ghost use Rattle.nas_core.specs.UseAnswer.{told_use};
+ghost use Rattle.nas_5gs.specs.OpenAnswer.{told_open};
 ghost use Rattle.nas_5gs.specs.Leaves.{leaves, leaves_two};
 ghost use Rattle.nas_5gs.specs.Changes.{window_of};
 ghost use Rattle.nas_5gs.specs.Seal.{seal_of};
 ghost use Rattle.nas_5gs.specs.Open.{open_of};
 
-use nas_5gs::{ChangeDone, Connection, Context, Direction, OpenDone, UseDone};
+use nas_5gs::{Connection, Context, Direction, OpenError, Opened};
+use nas_core::{Done, Received, Spent};
+use refusals::Refusal;
 
-pub fn set_window(context: Context, size: u8) -> ChangeDone
-    ensures { leaves result.answer result.context [] ≡ window_of context size }
+pub fn set_window(mut context: Context, size: u8) -> Done<Result<(), Refusal>, Context>
+    ensures { leaves (told_change result.answer) result.context [] ≡ window_of context size }
 {
-    let mut after = context;
-    let answer = nas_host::set_window(&mut after, size);
-    ChangeDone {
-        answer,
-        context: after,
-    }
+    let answer = nas_host::set_window(&mut context, size);
+    Done { answer, context }
 }
 
 pub fn seal(
-    context: Context,
+    mut context: Context,
     header_type: u8,
     direction: Direction,
     connection: Connection,
     inner: &[u8],
     out: &mut [u8],
-) -> UseDone
-    ensures { leaves result.answer result.context out.new ≡ seal_of context header_type direction connection inner.now out.old }
+) -> Done<Result<Spent, Refusal>, Context>
+    ensures { leaves (told_use result.answer) result.context out.new ≡ seal_of context header_type direction connection inner.now out.old }
 {
-    let mut after = context;
-    let answer = nas_host::seal(&mut after, header_type, direction, connection, inner, out);
-    UseDone {
-        answer,
-        context: after,
-    }
+    let answer = nas_host::seal(&mut context, header_type, direction, connection, inner, out);
+    Done { answer, context }
 }
 
 pub fn open(
-    context: Context,
+    mut context: Context,
     direction: Direction,
     connection: Connection,
     message: &[u8],
     out: &mut [u8],
     second: &mut [u8],
-) -> OpenDone
-    ensures { leaves_two result.answer result.context out.new second.new ≡ open_of context direction connection message.now out.old second.old }
+) -> Done<Result<Opened, OpenError<Received>>, Context>
+    ensures { leaves_two (told_open result.answer) result.context out.new second.new ≡ open_of context direction connection message.now out.old second.old }
 {
-    let mut after = context;
-    let answer = nas_host::open(&mut after, direction, connection, message, out, second);
-    OpenDone {
-        answer,
-        context: after,
-    }
+    let answer = nas_host::open(&mut context, direction, connection, message, out, second);
+    Done { answer, context }
 }

@@ -1,12 +1,12 @@
-use Rattle.hex_perform.proofs.Laws as laws
-use Rattle.hex_perform.specs.Perform.{perform_of}
+use Rattle.hex_perform.specs.Perform.{perform_of, held_of}
 use Rattle.hex_perform.proofs.perform.Goals as goal
 
-pub returns-then-line : goal.returns-then-line
+pub returns-in-None : goal.returns-in-None
 unfolding perform_of
-returns-then-line c =
-    rw c.if-line.true
+returns-in-None c =
+    rw c.in-None.is
 
-pub returns : goal.returns
-returns c =
-    laws.held c.args.line _ _ _ _ _ c.if-line.false c.call.ensures
+pub returns-in-Some : goal.returns-in-Some
+unfolding perform_of
+returns-in-Some c =
+    rw c.in-Some.is c.call.ensures

@@ -1,6 +1,6 @@
 -- Part of a list with another laid over it by exclusive or.
 -- Assumes nothing.
-use Rattle.std.proofs.Common.{◌≡◌, ℕ, zero, suc, ◌+◌, ◌-◌, ◌*◌, ◌/◌, ◌%◌, ◌<◌, ◌≤◌, List, [], ◌∷◌, ◌++◌, length, get_or, take, drop, set, sym, refl, ap, ◌∙◌, ap₂, add-zero, arith, length-append, length-drop, length-take, length-take-le, get_or-drop, get_or-take, get_or-append-add}
+use Rattle.std.proofs.Common.{◌≡◌, ℕ, zero, suc, ◌+◌, ◌-◌, ◌*◌, ◌/◌, ◌%◌, ◌<◌, ◌≤◌, List, [], ◌∷◌, ◌++◌, length, get_or, take, drop, set, sym, refl, ap, ◌∙◌, ap₂, add-zero, add-one, arith, length-append, length-drop, length-take, length-take-le, get_or-drop, get_or-take, get_or-append-add}
 use mathlib.Core.List.{zip_with}
 use lib.Bits.{bit_xor}
 use native.Mathlib.Numerals.{towards_suc}
@@ -78,20 +78,17 @@ over-one (x ∷ l) k (suc i) q zero e h g = absurd (omega arith)
 over-one (x ∷ l) k (suc i) q (suc j) e h g =
     ap (λ (r : List ℕ). x ∷ r) (over-one l k i q j (omega arith) (omega arith) (omega arith))
 
--- octet by octet from place i on: j is the next one's
+-- octet by octet from place i on: q of them so far
 module _ (l k : List ℕ) (i : ℕ) where
-  pub over-begin : l ≡ over l i (take (i - i) k)
-  over-begin =
-      let e : i - i ≡ 0 = omega arith in
-      sym (ap (λ (n : ℕ). over l i (take n k)) e ∙ over_none l i)
+  pub over-begin : l ≡ over l i (take 0 k)
+  over-begin = sym (over_none l i)
 
-  pub over-next : (z : List ℕ) (j : ℕ) → i ≤ j → j < length l → j - i < length k → z ≡ over l i (take (j - i) k)
-      → set z j (bit_xor (get_or z j 0) (get_or k (j - i) 0)) ≡ over l i (take (j + 1 - i) k)
-  over-next z j a b c e =
-      let n : suc (j - i) ≡ j + 1 - i = omega arith in
-      ap (λ (r : List ℕ). set r j (bit_xor (get_or r j 0) (get_or k (j - i) 0))) e ∙
-      over-one l k i (j - i) j (omega arith) b c ∙
-      ap (λ (q : ℕ). over l i (take q k)) n
+  pub over-next : (z : List ℕ) (q : ℕ) → i + q < length l → q < length k → z ≡ over l i (take q k)
+      → set z (i + q) (bit_xor (get_or z (i + q) 0) (get_or k q 0)) ≡ over l i (take (q + 1) k)
+  over-next z q b c e =
+      ap (λ (r : List ℕ). set r (i + q) (bit_xor (get_or r (i + q) 0) (get_or k q 0))) e ∙
+      over-one l k i q (i + q) refl b c ∙
+      ap (λ (n : ℕ). over l i (take n k)) (sym (add-one q))
 
 xor-cut : (n : ℕ) (l k : List ℕ) → xor (take n l) k ≡ xor (take n l) (take n k)
 unfolding zip_with

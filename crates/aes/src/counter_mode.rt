@@ -1,6 +1,6 @@
 // SP 800-38A 6.5: counter mode, two blocks at a time.
-ghost use Rattle.std.specs.Prelude.{◌≡◌, ℕ, ◌+◌, ◌-◌, ◌*◌, ◌%◌, ◌<◌, ◌≤◌, List, [], ◌∷◌, ◌++◌, length, take, drop, slice_index, slice_index_or, slice_range};
-ghost use Rattle.aes.specs.Octets.{four, xor, octets, number};
+ghost use Rattle.std.specs.Prelude.{◌≡◌, ℕ, ◌+◌, ◌-◌, ◌*◌, ◌%◌, ◌<◌, ◌≤◌, List, [], ◌++◌, length, take, drop, slice_index, slice_index_or, slice_range};
+ghost use Rattle.aes.specs.Octets.{four, xor, octets};
 ghost use Rattle.aes.specs.Cipher.{from_state, cipher};
 ghost use Rattle.aes_block.specs.Mix.{Shared};
 ghost use Rattle.aes.specs.Counter.{counter, ctr_of};
@@ -56,11 +56,8 @@ fn xor_part(m: &mut [u8], i: usize, end: usize, k: [u8; 16])
     requires { (i ≤ end) × (end ≤ length m.old) × (end - i ≤ 16) }
     ensures { m.new ≡ take i m.old ++ xor (slice_range m.old i end) k ++ drop end m.old }
 {
-    let mut j = i;
-    while j < end {
-        let q = j - i;
-        m[j] = m[j] ^ k[q];
-        j += 1;
+    for q in 0..end - i {
+        m[i + q] ^= k[q];
     }
 }
 
@@ -113,6 +110,7 @@ pub fn ctr_to(w: &Schedule, t: [u8; 16], m: &mut [u8], n: usize, end: usize)
     ensures { (l : List ℕ) → m.old ≡ ctr_of (cipher w.now) t (take (n * 16) l) ++ drop (n * 16) l → m.new ≡ ctr_of (cipher w.now) t (take end l) ++ drop end l }
 {
     let mut i = n * 16;
+    // kept: a turn goes to the end of its run, so no range and no step gives the turns.
     while i < end {
         let b = counter_block(t, i / 16);
         let g = shared(w, b);

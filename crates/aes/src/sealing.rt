@@ -1,6 +1,6 @@
 // A long message ciphered and its code made side by side: block j of the payload beside block j - 2 of the chain, whose octets were
 // ciphered two blocks before and lie in the message by then.
-ghost use Rattle.std.specs.Prelude.{◌≡◌, ℕ, ◌+◌, ◌-◌, ◌*◌, ◌/◌, ◌%◌, ◌<◌, ◌≤◌, List, [], ◌∷◌, ◌++◌, length, take, drop, slice_index};
+ghost use Rattle.std.specs.Prelude.{◌≡◌, ℕ, ◌+◌, ◌-◌, ◌*◌, ◌/◌, ◌%◌, ◌≤◌, List, ◌∷◌, ◌++◌, length, take, drop, slice_index};
 ghost use Rattle.aes.specs.Octets.{xor};
 ghost use Rattle.aes.specs.Cipher.{from_state, cipher};
 ghost use Rattle.aes_block.specs.Mix.{Shared};
@@ -61,6 +61,7 @@ pub fn cipher_and_chain(w: &Schedule, v: &Schedule, t: [u8; 16], f: u8, p: &mut 
         [p[3], p[4], p[5], p[6]],
     ];
     let mut i = 32;
+    // kept: a turn goes to the end of its run, as in `ctr_to`.
     while i < end {
         let b = counter_block(t, i / 16);
         let g = shared(w, b);

@@ -1,11 +1,11 @@
 -- A refusal with 6 or 7 leaves context and outputs as they were.
 use Prim.Native.Nat.{ℕ}
 use mathlib.Core.Path.{◌≡◌, refl, sym, ap, subst, ◌∙◌}
-use mathlib.Core.Bool.{Bool, true, false, cond, not, ◌&&◌}
+use mathlib.Core.Bool.{Bool, true, false, cond}
 use mathlib.Core.List.{List}
 use lib.ListN.{length}
 use lib.Dec.{eqb}
-use native.Mathlib.Omega.{arith}
+use Rattle.std.proofs.lemmas.Bool.{false≢true}
 use Rattle.count.specs.Rule.{Opening}
 use Rattle.std.specs.Prelude.{Ok, Err}
 use Rattle.count.specs.declared.Taken.TheVariants.{Late, Forward}
@@ -17,7 +17,7 @@ use Rattle.look.specs.Look.{look_of}
 use Rattle.nas_core.specs.Keyed.{wraps}
 use Rattle.nas_core.specs.Verify.{verify_of}
 use Rattle.nas_5gs.specs.declared.Context.{Context}
-use Rattle.nas_5gs.specs.declared.Direction.{Direction}
+use Rattle.nas_core.specs.declared.Direction.{Direction}
 use Rattle.nas_5gs.specs.declared.Connection.{Connection}
 use Rattle.nas_5gs.specs.OpenAnswer.{OpenAnswer, Refused, Accepted, Content}
 use Rattle.nas_5gs.specs.Places.{direction_no, bearer_no, place_of, record_at, used, used_late}
@@ -30,14 +30,11 @@ module _ (x : Context) (out second : List ℕ) where
   abbrev pub Keeps : LeavesTwo OpenAnswer → Type 0
   Keeps l = is_missed (refusal_of l) ≡ true → l ≡ leaves_two (Refused (refusal_of l)) x out second
 
-  clash : {P : Type 0} → ◌≡◌ {A = Bool} false true → P
-  clash e = absurd (let z : ◌≡◌ {A = ℕ} 0 1 = cc in omega arith)
-
   answered : (c far wrote t n s : ℕ) (next : Context) (o o2 : List ℕ) (b : Bool)
       → Keeps (leaves_two (cond b (Accepted c far wrote t s) (Content c far wrote t n)) next o o2)
   unfolding is_missed
-  answered c far wrote t n s next o o2 true e = clash e
-  answered c far wrote t n s next o o2 false e = clash e
+  answered c far wrote t n s next o o2 true e = absurd (false≢true e)
+  answered c far wrote t n s next o o2 false e = absurd (false≢true e)
 
   hands : (t d : ℕ) (plain : List ℕ) (h : Hidden) (c far : ℕ) (next : Context) → Keeps (handed t d plain h out second c far next)
   unfolding handed
@@ -111,10 +108,9 @@ module _ (x : Context) (d : Direction) (k : Connection) (m out second : List ℕ
   unfolding across_of
   this-one h = rw (sym e) (elim (wraps x.core) [ true ↦ refl | false ↦ simp h ])
 
-  pub not-this : (n : ℕ) → n ≡ number_of a → is_missed n ≡ true → wraps x.core ≡ false
+  pub not-this : (n : ℕ) → n ≡ number_of a → is_missed (number_of a) ≡ true → wraps x.core ≡ false
       → (r : LeavesAcross) → r ≡ elsewhere_of x d k n m o o2 → r ≡ across_of x d k m out second
   unfolding across_of
   not-this n number h w r f =
-      let there : is_missed (number_of a) ≡ true = ap is_missed (sym number) ∙ h in
-      let q = outputs x d k m out second a y o o2 e there in
-      rw (sym e) (simp (w, there) (f ∙ rw (number, q.first, q.beside') refl))
+      let q = outputs x d k m out second a y o o2 e h in
+      rw (sym e) (simp (w, h) (f ∙ rw (number, q.first, q.beside') refl))

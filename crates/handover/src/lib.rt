@@ -1,7 +1,7 @@
 // Late messages survive a handover between accesses: a message sealed on one connection that arrives on the other is opened on the one that sealed it.
 #![tactic(auto)]
 
-ghost use Rattle.std.specs.Prelude.{◌≡◌, ◌×◌, true, false, IfSome, IfNone};
+ghost use Rattle.std.specs.Prelude.{◌≡◌, true, false, IfSome, IfNone};
 ghost use Rattle.refusals.specs.Numbers.{number_of as number};
 ghost use Rattle.nas_5gs.specs.OpenAnswer.{told_open};
 ghost use Rattle.handover.specs.Across.{other, number_of, is_missed, both_of, leaves_across, elsewhere_of, across_of};
@@ -28,8 +28,8 @@ fn other(connection: Connection) -> Connection
 
 // The refusal of an open that found no COUNT in the record that it tried.
 #[tactic(auto, unfolding(crate::specs::Across::is_missed))]
-fn missed(answer: Result<Opened, OpenError<Received>>) -> Option<Refusal>
-    ensures some { IfSome result (λ r. (number r ≡ number_of (told_open answer)) × (is_missed (number r) ≡ true)) }
+fn not_taken(answer: Result<Opened, OpenError<Received>>) -> Option<Refusal>
+    ensures some { IfSome result (λ r. (number r ≡ number_of (told_open answer)) × (is_missed (number_of (told_open answer)) ≡ true)) }
     ensures none { IfNone result (is_missed (number_of (told_open answer)) ≡ false) }
 {
     match answer {
@@ -79,7 +79,7 @@ fn elsewhere(
 {
     let k = other(connection);
     let there = context.open(direction, k, message, out, second);
-    match missed(there.answer) {
+    match not_taken(there.answer) {
         None => on(k, there),
         Some(other) => Done {
             answer: AcrossAnswer {
@@ -107,7 +107,7 @@ pub fn open_across(
     if context.core.wraps() {
         return on(connection, here);
     }
-    match missed(here.answer) {
+    match not_taken(here.answer) {
         None => on(connection, here),
         Some(refusal) => elsewhere(
             context, direction, connection, refusal, message, out, second,

@@ -3,8 +3,8 @@ use Rattle.std.specs.Prelude.{ℕ, cond, List, Option, Some, None, eqb, get_or}
 use Rattle.aes.specs.Keys.{key_of}
 use Rattle.nas_core.specs.Keyed.{core_with}
 use Rattle.nas_eps.specs.declared.Context.{Context}
-use Rattle.nas_eps.specs.declared.Direction.{Direction}
-use Rattle.nas_eps.specs.declared.Direction.TheVariants.{Uplink, Downlink}
+use Rattle.nas_core.specs.declared.Direction.{Direction}
+use Rattle.nas_core.specs.declared.Direction.TheVariants.{Uplink, Downlink}
 use Rattle.nas_eps.specs.Places.{two}
 use Rattle.nas_eps.specs.Leaves.{Leaves, leaves}
 use Rattle.nas_eps.specs.Changes.{new_of, restore_of, reselect_of, window_of}

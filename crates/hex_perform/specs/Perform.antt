@@ -1,8 +1,8 @@
 -- A call performed: which function of nas_5gs is called with which of the line's numbers (docs/HEX-LINES.md, "Calls").
 use Rattle.std.specs.Prelude.{ℕ, cond, List, Option, Some, None, eqb, get_or}
 use Rattle.nas_5gs.specs.declared.Context.{Context}
-use Rattle.nas_5gs.specs.declared.Direction.{Direction}
-use Rattle.nas_5gs.specs.declared.Direction.TheVariants.{Uplink, Downlink}
+use Rattle.nas_core.specs.declared.Direction.{Direction}
+use Rattle.nas_core.specs.declared.Direction.TheVariants.{Uplink, Downlink}
 use Rattle.nas_5gs.specs.declared.Connection.{Connection}
 use Rattle.nas_5gs.specs.declared.Connection.TheVariants.{ThreeGpp, Non3Gpp}
 use Rattle.nas_5gs.specs.Places.{four}

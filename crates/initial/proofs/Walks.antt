@@ -69,17 +69,14 @@ pub no_more : (found : Option Span) → more found (parts []) ≡ Ok found
 no_more None = refl
 no_more (Some s) = refl
 
--- what is found so far, and a part more
-abbrev pub kept : Option Span → ℕ → ℕ → ℕ → Option Span
-kept found i start n = option_or found (then_some (eqb i 0x71) (span start n))
-
 one_more : (b : Bool) (found : Option Span) (s : Span) (ps : List Part)
     → more (option_or found (then_some b s)) (parts ps) ≡ Ok (option_or found (cond b (Some s) (first_in ps)))
 one_more b (Some t) s ps = refl
 one_more true None s ps = refl
 one_more false None s ps = refl
 
-pub keeps : (found : Option Span) (i s n : ℕ) (w : Walk) → more (kept found i s n) w ≡ more found (part i s n before w)
+pub keeps : (found : Option Span) (i s n : ℕ) (w : Walk)
+    → more (option_or found (then_some (eqb i 0x71) (span s n))) w ≡ more found (part i s n before w)
 keeps found i s n fails = refl
 keeps found i s n (parts ps) = one_more (eqb i 0x71) found (span s n) ps
 

@@ -1,5 +1,5 @@
 -- Where a container lies, and what a walk that succeeds says of the message.
-use mathlib.Core.Path.{◌≡◌, refl, subst}
+use mathlib.Core.Path.{◌≡◌, refl, sym, subst}
 use mathlib.Core.Bool.{Bool, true, false, cond}
 use mathlib.Core.List.{List, []}
 use Prim.Native.Nat.{ℕ, zero, suc, ◌+◌, ◌≤◌, ◌<◌}
@@ -7,7 +7,7 @@ use native.Mathlib.Omega.{arith}
 use lib.Dec.{leb, eqb}
 use lib.ListN.{length, get_or, drop}
 use borrow.Author.Tests.{leb-true}
-use Rattle.std.specs.Prelude.{Option, Some, None, Result, Ok, Err}
+use Rattle.std.specs.Prelude.{Option, Some, None, Result, Ok, Err, IfOk, IfSome}
 use Rattle.initial.specs.declared.Span.{Span}
 use Rattle.initial.specs.declared.Unwalkable.{Unwalkable}
 use Rattle.initial.specs.Messages.{mandatory_length, is_whole}
@@ -71,3 +71,10 @@ pub absent : (c : Result (Option Span) Unwalkable) → is_absent c ≡ true → 
 absent (Ok None) e = refl
 absent (Err x) e = cc
 absent (Ok (Some s)) e = cc
+
+-- what a call found lies in the message
+pub walked : (m : List ℕ) (n at : ℕ) (c : Result (Option Span) Unwalkable) → c ≡ container_in (walk_from m n at)
+    → IfOk c (λ o. IfSome o (λ s. s.start + s.length ≤ length m))
+walked m n at (Err x) e = tt
+walked m n at (Ok None) e = tt
+walked m n at (Ok (Some s)) e = (subst (λ (c : Result (Option Span) Unwalkable). Lies m at c) (sym e) (lies m n at)).1

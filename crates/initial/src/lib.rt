@@ -1,7 +1,7 @@
 // Initial messages and their NAS message container: the walk over optional parts, the cleartext message, the container's place. No key, no COUNT.
 #![tactic(auto)]
 
-ghost use Rattle.std.specs.Prelude.{◌≡◌, ◌+◌, ◌≤◌, ◌<◌, length, get_or};
+ghost use Rattle.std.specs.Prelude.{◌≡◌, ◌+◌, ◌≤◌, ◌<◌, length, get_or, IfOk, IfSome};
 ghost use Rattle.initial.specs.Parts.{format_of, head_of, number, value_length, part_length};
 ghost use Rattle.initial.specs.Walk.{walk_from, container_in, container_of};
 ghost use Rattle.initial.specs.Messages.{is_initial, mandatory_length};
@@ -120,7 +120,8 @@ fn walk(message: &[u8], from: usize) -> Result<Option<Span>, Unwalkable>
 
 #[tactic(auto, unfolding(crate::specs::Walk::container_of, crate::specs::Walk::walk_of, crate::specs::Messages::is_whole))]
 pub fn find_container(message: &[u8]) -> Result<Option<Span>, Unwalkable>
-    ensures { result ≡ container_of message.now }
+    ensures found { result ≡ container_of message.now }
+    ensures within { IfOk result (λ o. IfSome o (λ s. s.start + s.length ≤ length message.now)) }
 {
     let from = mandatory_length(message);
     if message.len() < from {
@@ -178,6 +179,7 @@ pub fn put_front(message: &[u8], out: &mut [u8])
 }
 
 // Whether the container of an opened message is asked for.
+// kept: header type and direction as numbers, as the look takes them
 #[tactic(auto, unfolding(crate::specs::Inside::is_asked))]
 pub fn is_asked(header_type: u8, direction: u8, message: &[u8]) -> bool
     ensures { result ≡ is_asked header_type direction message.now }

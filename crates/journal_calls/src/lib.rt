@@ -10,8 +10,10 @@ use refusals::Refusal;
 
 // A call but for what stands at the end of its bytes: keys and next COUNTs, a message, a value. A place is 0 uplink and 1 downlink of 3GPP access, 2 and 3 of
 // non-3GPP access; a connection 0 3GPP, 1 non-3GPP. A host that lends more than 65,535 octets says 65,535.
+// kept: places and connections are the octets of a record, and `Places` of specs/Laws, which the theorems back and Replays take, bounds them as numbers
 #[derive(Clone, Copy, Debug, PartialEq, Eq)]
 pub enum Call {
+    // kept: kind 00, for which the theorems back and Replays have a case
     Unknown,
     New { integrity: u8, ciphering: u8 },
     Restore { integrity: u8, ciphering: u8 },

@@ -236,9 +236,7 @@ fn line_for(entry: Entry, rest: &[u8]) -> Line
         Entry::EpsOpen(room) => headed(Call::EpsOpen, room, 0, rest),
         Entry::N1ToS1 => headed(Call::N1ToS1, 0, 0, rest),
         Entry::VerifyN1ToS1(octet) => headed(Call::VerifyN1ToS1(octet), 0, 0, rest),
-        Entry::S1ToN1 { ncc, ngksi, room } => {
-            headed(Call::S1ToN1 { ncc, ngksi }, room, 0, rest)
-        }
+        Entry::S1ToN1 { ncc, ngksi, room } => { headed(Call::S1ToN1 { ncc, ngksi }, room, 0, rest) }
         Entry::VerifyS1ToN1 => headed(Call::VerifyS1ToN1, 0, 0, rest),
         Entry::Initial { connection, room } => {
             headed(Call::Initial(connection % 2 + 1), room, 0, rest)

@@ -5,9 +5,10 @@ use Prim.Native.Nat.{ℕ, ◌+◌, ◌/◌, ◌%◌, ◌≤◌, ◌<◌, min}
 use native.Mathlib.Omega.{arith}
 use lib.Dec.{eqb}
 use lib.ListN.{length}
+use Rattle.std.specs.Prelude.{Option, Some, None, IsSome}
 use Rattle.nas_5gs.specs.declared.Context.{Context}
 use Rattle.nas_5gs.specs.Leaves.{LeavesTwo}
-use Rattle.hex_parse.specs.declared.Line.{Line}
+use Rattle.hex_parse.specs.Lines.{Line}
 use Rattle.hex_parse.specs.declared.Call.{Call}
 use Rattle.hex_parse.specs.declared.Call.TheVariants as hex
 use Rattle.hex_perform.specs.declared.Answer.{Answer}
@@ -22,7 +23,7 @@ use Rattle.journal_calls.specs.Calls.{kind_of, front_of, rest_of}
 use Rattle.journal_calls.specs.declared.Call.TheVariants as journal
 use Rattle.journal_calls.specs.Laws.{Places, State}
 use Rattle.journal_calls.proofs.Laws as call-laws
-use Rattle.journal_lines.specs.Lines.{place_of, access_of, entry_of, behind_of, rest_in, entry_in, bytes_of, line_for, line_of}
+use Rattle.journal_lines.specs.Lines.{place_of, access_of, entry_of, rest_in, entry_in, bytes_of, line_for, line_of}
 use Rattle.journal_replay.specs.Replay.{lent, performed, given, answered, lines_in, replayed}
 use Rattle.journal_replay.specs.Laws.{room_in, second_in, Held, AllHeld, records_of, Replays}
 
@@ -91,7 +92,7 @@ module _ (l : Line) (h : Held l) where
 
   -- each call as its record's line has it
   same : (c : Call) (n m : ℕ) (o : List ℕ) (x : Context) (out second : List ℕ) → 1 ≤ kind_of (entry_of c n m)
-      → perform_of (line_for (entry_of c n m) (rest_in (behind_of c) l o)) x (rest_in (behind_of c) l o) out second ≡ call_of c l x o out second
+      → perform_of (line_for (entry_of c n m) (rest_in (entry_of c n m) l o)) x (rest_in (entry_of c n m) l o) out second ≡ call_of c l x o out second
   unfolding perform_of call_of
   same hex.Bad n m o x out second p = absurd (omega arith)
   same (hex.New i c) n m o x out second p = simp (integrity-alone, ciphering-alone)
@@ -134,6 +135,11 @@ rooms (journal.S1ToN1 p k n) r = (refl, refl)
 rooms journal.VerifyS1ToN1 r = (refl, refl)
 rooms (journal.Initial k n) r = (refl, refl)
 
+-- what an Option that has a value is
+some-of : (o : Option ℕ) → IsSome o → (n : ℕ) × (o ≡ Some n)
+some-of (Some n) h = (n, refl)
+some-of None h = absurd (let z : ◌≡◌ {A = ℕ} 0 1 = cc in omega arith)
+
 -- a line's record, read and performed
 one : (l : Line) (o : List ℕ) (x : Context) → Held l
     → performed (line_of (kind_of (entry_in l)) (bytes_of l o)) (rest_of (kind_of (entry_in l)) (bytes_of l o)) x ≡ performed l o x
@@ -142,7 +148,7 @@ one l o x h =
     let n = min l.room 65535 in
     let m = min l.second 65535 in
     let e = entry_of l.call n m in
-    let r = rest_in (behind_of l.call) l o in
+    let r = rest_in e l o in
     let b = call-laws.back e r (places l.call n m) in
     let room : (line_for e r).room ≡ l.room = (rooms e r).0 ∙ sym h.room in
     let second : (line_for e r).second ≡ l.second = (rooms e r).1 ∙ sym h.second in
@@ -151,7 +157,7 @@ one l o x h =
     ∙ ap (λ (k : ℕ). perform_of (line_for e r) x r (lent k) (lent (line_for e r).second)) room
     ∙ ap (λ (k : ℕ). perform_of (line_for e r) x r (lent l.room) (lent k)) second
     ∙ same l h l.call n m o x (lent l.room) (lent l.second) h.called
-    ∙ simp h.whole
+    ∙ simp (some-of l.octets h.whole).1
 
 all : (ls : List (Line × List ℕ)) (x : Context) → AllHeld ls → answered (lines_in (calls (records_of ls))) x ≡ answered ls x
 unfolding answered

@@ -1,7 +1,7 @@
 -- What was written replays as the lines themselves: stated here, proved in proofs/Laws.antt.
-use Rattle.std.specs.Prelude.{ℕ, ◌≤◌, ◌≡◌, true, false, List, [], ◌∷◌, length}
+use Rattle.std.specs.Prelude.{ℕ, ◌≤◌, ◌≡◌, true, List, [], ◌∷◌, IsSome, length}
 use Rattle.nas_5gs.specs.declared.Context.{Context}
-use Rattle.hex_parse.specs.declared.Line.{Line}
+use Rattle.hex_parse.specs.Lines.{Line}
 use Rattle.journal.specs.Items.{items}
 use Rattle.journal.specs.Laws.{are_written, records}
 use Rattle.journal_calls.specs.Calls.{kind_of}
@@ -47,7 +47,7 @@ second_in (journal.Initial k n) = 0
 
 -- A line as it is parsed, held whole, that is a call: keys of 16 octets, four next COUNTs, rooms of four digits and only where the call lends.
 pub record Held (l : Line) : Type 0 where
-  pub whole : l.long ≡ false
+  pub whole : IsSome l.octets
   pub called : 1 ≤ kind_of (entry_in l)
   pub integrity : length l.integrity_key ≡ 16
   pub ciphering : length l.ciphering_key ≡ 16

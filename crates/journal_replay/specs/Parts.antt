@@ -3,7 +3,7 @@
 use Rattle.std.specs.Prelude.{ℕ, ◌/◌, ◌%◌, ◌+◌, ◌≡◌, true, false, List, [], ◌∷◌, ◌++◌, map, reverse}
 use Rattle.nas_5gs.specs.declared.Context.{Context}
 use Rattle.nas_5gs.specs.Leaves.{LeavesTwo, leaves_two, Values, refusal, success}
-use Rattle.hex_parse.specs.Lines.{no_key}
+use Rattle.hex_parse.specs.Parsed.{no_key}
 use Rattle.hex_perform.specs.declared.Answer.{Answer}
 use Rattle.hex_perform.specs.declared.Answer.TheVariants.{Bad, Done, Shown, Refused, Used, Made, Opened, Content, EpsContent, Received, OpenedOn, ContentOn}
 use Rattle.hex_perform.specs.Perform.{direction_of, connection_of}

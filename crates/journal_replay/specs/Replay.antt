@@ -2,7 +2,7 @@
 use Rattle.std.specs.Prelude.{ℕ, List, [], ◌∷◌, replicate}
 use Rattle.nas_5gs.specs.declared.Context.{Context}
 use Rattle.nas_5gs.specs.Leaves.{LeavesTwo, leaves_two}
-use Rattle.hex_parse.specs.declared.Line.{Line}
+use Rattle.hex_parse.specs.Lines.{Line}
 use Rattle.hex_perform.specs.declared.Answer.{Answer}
 use Rattle.hex_perform.specs.Perform.{perform_of}
 use Rattle.journal.specs.Items.{Item, call, skipped}

@@ -5,7 +5,7 @@
 use Rattle.std.specs.Prelude.{ℕ, ◌<◌, ◌≡◌, cond, List, [], ◌∷◌, ◌++◌, map, length, eqb}
 use Rattle.count.specs.Run.{NoneTwice}
 use Rattle.nas_5gs.specs.declared.Context.{Context}
-use Rattle.nas_5gs.specs.declared.Direction.{Direction}
+use Rattle.nas_core.specs.declared.Direction.{Direction}
 use Rattle.nas_5gs.specs.declared.Connection.{Connection}
 use Rattle.nas_5gs.specs.Places.{place_of, record_at}
 use Rattle.nas_5gs.specs.Leaves.{change_values, use_values, open_values}

@@ -6,7 +6,7 @@ use Prim.Native.Nat.{ℕ, ◌-◌}
 use native.Mathlib.Omega.{arith}
 use lib.ListN.{length, take, drop, length-drop}
 use lib.Seq.{take_at}
-use borrow.Author.Tests.{ne_eqb}
+use borrow.Author.Tests.{ne_eqb, eqb-false}
 use Rattle.look.specs.Look.{look_of}
 use Rattle.nas_core.specs.declared.Core.{Core}
 use Rattle.nas_core.specs.Keyed.{payload}
@@ -16,13 +16,23 @@ use Rattle.initial.proofs.Laws.{laws}
 use Rattle.envelope.specs.Initial.{beside_of, beside, told}
 use Rattle.envelope.proofs.Insides.{asked_is}
 use Rattle.nas_5gs.specs.declared.Context.{Context}
-use Rattle.nas_5gs.specs.OpenAnswer.{OpenAnswer, Accepted, Content}
+use Rattle.nas_5gs.specs.OpenAnswer.{OpenAnswer, Refused, Accepted, Content, told_open}
 use Rattle.nas_5gs.specs.EpsOpenAnswer.{EpsOpenAnswer}
+use Rattle.nas_5gs.specs.EpsOpenAnswer as eps
+use Rattle.std.specs.Prelude.{Result, Ok, Err, IsErrAnd}
+use Rattle.refusals.proofs.Laws.{number-not0}
+use Rattle.refusals.specs.Numbers.{number_of, refused as numbered}
+use Rattle.refusals.specs.declared.Refusal.{Refusal}
+use Rattle.count.specs.Rule.{refusal_of}
+use Rattle.count.specs.declared.Missed.{Missed}
+use Rattle.count.specs.declared.Missed.TheVariants.{NoCandidate, WrongCode}
+use Rattle.nas_core.specs.Verify.{verify_of}
+use Rattle.nas_5gs.specs.Places.{record_at}
 use Rattle.nas_5gs.specs.Leaves.{leaves, leaves_two, over}
 use Rattle.nas_5gs.specs.Envelope.{ciphers}
-use Rattle.nas_5gs.specs.Open.{inside_number, open_answer, handed}
-use Rattle.envelope.specs.Eps.{not_eps}
-use Rattle.nas_5gs.specs.Eps.{eps_answer, eps_handed}
+use Rattle.nas_5gs.specs.Open.{inside_number, open_answer, handed, opened}
+use Rattle.envelope.specs.Eps.{not_eps, eps_bearer, eps_direction}
+use Rattle.nas_5gs.specs.Eps.{eps_place, eps_answer, eps_handed, eps_opened}
 
 -- what is asked for passes the look
 pub asked-looks : (t d : ℕ) (p : List ℕ) → is_asked t d p ≡ true → look_of t d p ≡ 0
@@ -37,11 +47,26 @@ nothing x t c b d p n = go (is_asked t d p) _ refl
     go true h e = absurd (n (asked-looks t d p e))
     go false h e = refl
 
--- the look refuses: nothing goes to the second output
-pub content : (t d c f n k : ℕ) (h : Hidden) (p : List ℕ) → k ≡ look_of t d p → (k ≡ 0 → ⊥) → h ≡ hidden []
-    → Content c f n t k ≡ open_answer c f n t (inside_number (look_of t d p) h) (length (beside h))
+-- the number inside, where the look refuses, where it passes and the container does not, and where both pass
+pub looked : (look n : ℕ) (h : Hidden) → n ≡ look → (n ≡ 0 → ⊥) → n ≡ inside_number look h
 unfolding inside_number
-content t d c f n k h p s z e = simp (s, e, ne_eqb _ _ (λ q. z (s ∙ q)))
+looked look n h e z = simp (sym e, ne_eqb _ _ z)
+
+pub hid : (look : ℕ) (r : Result ℕ Refusal) (h : Hidden) → 0 ≡ look → r ≡ told h → numbered r ≡ inside_number look h
+unfolding inside_number
+hid look r refused e q = simp (sym e, q)
+hid look r (hidden l) e q = simp (sym e, q)
+
+pub hid-length : (h : Hidden) (n : ℕ) → told h ≡ Ok n → n ≡ length (beside h)
+hid-length refused n e = absurd (let z : ◌≡◌ {A = ℕ} 0 1 = cc in omega arith)
+hid-length (hidden q) n e = let l : n ≡ length q = cc in l
+
+pub erred : (r : Result ℕ Refusal) (e : Refusal) → IsErrAnd r (λ f. f ≡ e) → numbered r ≡ number_of e
+erred (Err f) e h = ap number_of h
+erred (Ok n) e h = absurd h
+
+pub never-0 : (r : Refusal) → number_of r ≡ 0 → ⊥
+never-0 r e = eqb-false (number_of r) 0 (number-not0 r) e
 
 pub kept : (h : Hidden) (second : List ℕ) → h ≡ hidden [] → second ≡ over (beside h) second
 kept h second e = rw e
@@ -75,3 +100,18 @@ pub hands-eps : (c f g : ℕ) (next used : Context) (a : EpsOpenAnswer) (p q o o
     → leaves a next o ≡ eps_handed p out c g used
 unfolding eps_handed
 hands-eps c f g next used a p q o out e r n y w = rw (w, y, n, r, e)
+
+-- a message that is taken as none
+pub missed : (x : Context) (p b d : ℕ) (m out second o : List ℕ) (a : OpenAnswer) (next : Context) (e : Missed)
+    → verify_of x.core (record_at x p) b d 2 m ≡ Err e → a ≡ Refused (number_of (refusal_of e)) → next ≡ x → o ≡ out
+    → leaves_two a next o second ≡ opened x p b d m out second
+unfolding opened
+missed x p b d m out second o a next NoCandidate v r n y = rw (v, r, n, y) refl
+missed x p b d m out second o a next WrongCode v r n y = rw (v, r, n, y) refl
+
+pub missed-eps : (x : Context) (m out o : List ℕ) (a : EpsOpenAnswer) (next : Context) (e : Missed)
+    → verify_of x.core (record_at x eps_place) eps_bearer eps_direction 1 m ≡ Err e → a ≡ eps.Refused (number_of (refusal_of e)) → next ≡ x → o ≡ out
+    → leaves a next o ≡ eps_opened x m out
+unfolding eps_opened
+missed-eps x m out o a next NoCandidate v r n y = rw (v, r, n, y) refl
+missed-eps x m out o a next WrongCode v r n y = rw (v, r, n, y) refl

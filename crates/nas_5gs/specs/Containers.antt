@@ -7,7 +7,7 @@ use Rattle.nas_core.specs.Keyed.{wraps}
 use Rattle.nas_core.specs.Verify.{fits}
 unfoldable pub use Rattle.envelope.specs.Containers.{s1_to_n1, other_algorithms}
 pub use Rattle.envelope.specs.Containers.{container_bearer, container_direction, s1_value, s1_count}
-use Rattle.nas_5gs.specs.declared.Direction.TheVariants.{Downlink}
+use Rattle.nas_core.specs.declared.Direction.TheVariants.{Downlink}
 use Rattle.nas_5gs.specs.declared.Connection.TheVariants.{ThreeGpp}
 use Rattle.nas_5gs.specs.declared.Context.{Context}
 use Rattle.nas_core.specs.UseAnswer.{UseAnswer, Refused}

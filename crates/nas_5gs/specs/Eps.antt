@@ -7,7 +7,7 @@ use Rattle.nas_core.specs.Refusals.{send_refusals, hand_refusals}
 use Rattle.nas_core.specs.Verify.{verify_of}
 unfoldable pub use Rattle.envelope.specs.Eps.{not_eps, eps_message}
 pub use Rattle.envelope.specs.Eps.{eps_bearer, eps_direction}
-use Rattle.nas_5gs.specs.declared.Direction.TheVariants.{Uplink}
+use Rattle.nas_core.specs.declared.Direction.TheVariants.{Uplink}
 use Rattle.nas_5gs.specs.declared.Connection.TheVariants.{ThreeGpp}
 use Rattle.nas_5gs.specs.declared.Context.{Context}
 use Rattle.nas_core.specs.UseAnswer.{UseAnswer}

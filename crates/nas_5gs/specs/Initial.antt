@@ -5,7 +5,7 @@ use Rattle.nas_core.specs.Refusals.{send_refusals}
 use Rattle.initial.specs.Messages.{is_initial}
 use Rattle.initial.specs.Outer.{is_hideable, outer_length}
 use Rattle.envelope.specs.Initial.{initial_envelope}
-use Rattle.nas_5gs.specs.declared.Direction.TheVariants.{Uplink}
+use Rattle.nas_core.specs.declared.Direction.TheVariants.{Uplink}
 use Rattle.nas_5gs.specs.declared.Connection.{Connection}
 use Rattle.nas_5gs.specs.declared.Context.{Context}
 use Rattle.nas_core.specs.UseAnswer.{UseAnswer, Refused}

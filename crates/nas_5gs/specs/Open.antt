@@ -9,7 +9,7 @@ use Rattle.nas_core.specs.Verify.{verify_of}
 use Rattle.look.specs.Look.{look_of}
 use Rattle.initial.specs.Inside.{Hidden}
 use Rattle.envelope.specs.Initial.{beside_of, beside, is_refused}
-use Rattle.nas_5gs.specs.declared.Direction.{Direction}
+use Rattle.nas_core.specs.declared.Direction.{Direction}
 use Rattle.nas_5gs.specs.declared.Connection.{Connection}
 use Rattle.nas_5gs.specs.declared.Context.{Context}
 use Rattle.nas_5gs.specs.OpenAnswer.{OpenAnswer, Refused, Accepted, Content}

@@ -5,16 +5,13 @@ use Rattle.count.specs.declared.Record.{Record}
 use Rattle.refusals.specs.Order.{◌when◌, first}
 use Rattle.nas_core.specs.Refusals.{core_fault}
 pub use Rattle.nas_core.specs.Refusals.{any_over}
+pub use Rattle.nas_core.specs.Types.{direction_no}
 use Rattle.nas_core.specs.Verify.{advanced}
-use Rattle.nas_5gs.specs.declared.Direction.{Direction}
-use Rattle.nas_5gs.specs.declared.Direction.TheVariants.{Uplink, Downlink}
+use Rattle.nas_core.specs.declared.Direction.{Direction}
+use Rattle.nas_core.specs.declared.Direction.TheVariants.{Uplink, Downlink}
 use Rattle.nas_5gs.specs.declared.Connection.{Connection}
 use Rattle.nas_5gs.specs.declared.Connection.TheVariants.{ThreeGpp, Non3Gpp}
 use Rattle.nas_5gs.specs.declared.Context.{Context}
-
-abbrev pub direction_no : Direction → ℕ
-direction_no Uplink = 0
-direction_no Downlink = 1
 
 -- the bearer input of the algorithms is the connection's number
 abbrev pub bearer_no : Connection → ℕ

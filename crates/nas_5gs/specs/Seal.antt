@@ -3,7 +3,7 @@ use Rattle.std.specs.Prelude.{ℕ, List, ◌∷◌, length}
 use Rattle.refusals.specs.Order.{◌when◌, first, refused_or}
 use Rattle.nas_core.specs.Refusals.{send_refusals}
 use Rattle.look.specs.Look.{not_known, not_together, wrong_way}
-use Rattle.nas_5gs.specs.declared.Direction.{Direction}
+use Rattle.nas_core.specs.declared.Direction.{Direction}
 use Rattle.nas_5gs.specs.declared.Connection.{Connection}
 use Rattle.nas_5gs.specs.declared.Context.{Context}
 use Rattle.nas_core.specs.UseAnswer.{UseAnswer, Refused}

@@ -31,7 +31,12 @@ fn context_with(
     let [a, b, c, d] = next;
     Context {
         core,
-        records: [Record::fresh(a), Record::fresh(b), Record::fresh(c), Record::fresh(d)],
+        records: [
+            Record::fresh(a),
+            Record::fresh(b),
+            Record::fresh(c),
+            Record::fresh(d),
+        ],
     }
 }
 

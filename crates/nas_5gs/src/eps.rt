@@ -13,11 +13,7 @@ use nas_core::{Done, Spent};
 use refusals::Refusal;
 
 // What follows the header is looked at.
-fn hand_eps(
-    count: u32,
-    distance: u32,
-    plain: &[u8],
-) -> Result<EpsReceived, OpenError<EpsReceived>>
+fn hand_eps(count: u32, distance: u32, plain: &[u8]) -> Result<EpsReceived, OpenError<EpsReceived>>
     ensures { told_eps_open result ≡ eps_answer count distance (length plain.now) (not_eps plain.now) }
 {
     let message = EpsReceived {
@@ -44,11 +40,7 @@ impl Context {
         nas_core::check_sending(envelope::EPS_HEADER, inner.len(), room, next)
     }
 
-    pub fn seal_eps(
-        self,
-        inner: &[u8],
-        out: &mut [u8],
-    ) -> Done<Result<Spent, Refusal>, Context>
+    pub fn seal_eps(self, inner: &[u8], out: &mut [u8]) -> Done<Result<Spent, Refusal>, Context>
         ensures { leaves (told_use result.answer) result.context out.new ≡ seal_eps_of self inner.now out.old }
     {
         if let Err(refusal) = self.check_seal_eps(inner, out.len()) {
@@ -87,14 +79,16 @@ impl Context {
     {
         let core = self.core;
         let rec = self.records[crate::EPS_PLACE];
-        let choice = envelope::read_eps(core, rec, message, out);
-        match choice {
-            Err(missed) => self.unchanged(Err(OpenError::Refused(Refusal::from(missed)))),
-            Ok(Taken::Late(c)) => Done {
+        let taken = match envelope::read_eps(core, rec, message, out) {
+            Ok(taken) => taken,
+            Err(missed) => return self.unchanged(Err(OpenError::Refused(Refusal::from(missed)))),
+        };
+        match taken {
+            Taken::Late(c) => Done {
                 answer: hand_eps(c, rec.distance_to(c), &message[envelope::EPS_HEADER..]),
                 context: self.used_late(crate::EPS_PLACE, c),
             },
-            Ok(Taken::Forward(c)) => Done {
+            Taken::Forward(c) => Done {
                 answer: hand_eps(c, rec.distance_to(c), &message[envelope::EPS_HEADER..]),
                 context: self.used(crate::EPS_PLACE, c),
             },

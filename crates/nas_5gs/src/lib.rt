@@ -5,7 +5,7 @@ ghost use Rattle.std.specs.Prelude.{◌≡◌, false, [], ◌∷◌, ◌+◌, �
 ghost use Rattle.count.specs.Rule.{exhausted};
 ghost use Rattle.refusals.specs.Numbers.{refused};
 ghost use Rattle.nas_core.specs.Keyed.{wraps};
-ghost use Rattle.nas_5gs.specs.Places.{direction_no, bearer_no, place_of, record_at, with_record, any_over, fault_of, used, used_late};
+ghost use Rattle.nas_5gs.specs.Places.{bearer_no, place_of, record_at, with_record, any_over, fault_of, used, used_late};
 
 mod change;
 mod containers;
@@ -13,15 +13,10 @@ mod eps;
 mod open;
 mod seal;
 
-use nas_core::{Core, Done, Received};
 use count::{Record, Taken};
+pub use nas_core::Direction;
+use nas_core::{Core, Done, Received};
 use refusals::Refusal;
-
-#[derive(Clone, Copy, Debug, PartialEq, Eq)]
-pub enum Direction {
-    Uplink,
-    Downlink,
-}
 
 #[derive(Clone, Copy, Debug, PartialEq, Eq)]
 pub enum Connection {
@@ -76,17 +71,6 @@ pub struct MadeOctet {
 pub struct Reached {
     pub count: u32,
     pub distance: u32,
-}
-
-impl Direction {
-    fn number(self) -> u8
-        ensures { result ≡ direction_no self }
-    {
-        match self {
-            Direction::Uplink => 0,
-            Direction::Downlink => 1,
-        }
-    }
 }
 
 impl Connection {

@@ -104,10 +104,12 @@ impl Context {
         let rec = self.records[p];
         let t = message[1] % 16;
         let n = message.len() - envelope::HEADER;
-        let choice = envelope::read(core, rec, t, bearer, direction, message, out);
-        match choice {
-            Err(missed) => self.unchanged(Err(OpenError::Refused(Refusal::from(missed)))),
-            Ok(Taken::Late(count)) => {
+        let taken = match envelope::read(core, rec, t, bearer, direction, message, out) {
+            Ok(taken) => taken,
+            Err(missed) => return self.unchanged(Err(OpenError::Refused(Refusal::from(missed)))),
+        };
+        match taken {
+            Taken::Late(count) => {
                 let input = Input {
                     count,
                     bearer,
@@ -119,7 +121,7 @@ impl Context {
                     context: self.used_late(p, count),
                 }
             }
-            Ok(Taken::Forward(count)) => {
+            Taken::Forward(count) => {
                 let input = Input {
                     count,
                     bearer,

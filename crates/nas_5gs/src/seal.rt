@@ -5,7 +5,7 @@ ghost use Rattle.count.specs.Rule.{exhausted};
 ghost use Rattle.initial.specs.Messages.{mandatory_length};
 ghost use Rattle.initial.specs.Outer.{outer_length};
 ghost use Rattle.nas_core.specs.UseAnswer.{told_use};
-ghost use Rattle.nas_5gs.specs.declared.Direction.TheVariants.{Uplink};
+ghost use Rattle.nas_core.specs.declared.Direction.TheVariants.{Uplink};
 ghost use Rattle.nas_5gs.specs.Places.{direction_no, bearer_no, place_of, next_at};
 ghost use Rattle.nas_5gs.specs.Leaves.{leaves};
 ghost use Rattle.nas_5gs.specs.Seal.{seal_refusal, opaque_refusal, sent, seal_of, seal_opaque_of};

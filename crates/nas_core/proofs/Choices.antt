@@ -1,15 +1,19 @@
-use Rattle.std.specs.Prelude.{None, Some, Ok}
+use Rattle.std.specs.Prelude.{None, Some, Ok, Err}
 -- The record's bounds on a COUNT that a message is taken as.
-use mathlib.Core.Path.{◌≡◌}
+use mathlib.Core.Path.{◌≡◌, refl, ap, ◌∙◌}
 use mathlib.Core.Bool.{Bool, true, false, cond}
 use mathlib.Core.Logic.{inl, inr}
 use mathlib.Core.List.{List}
 use Prim.Native.Nat.{ℕ, ◌+◌, ◌≤◌, ◌<◌}
 use native.Mathlib.Omega.{arith}
 use lib.ListN.{get_or}
-use Rattle.count.specs.Rule.{exhausted, forward_of, late_of, opening}
+use Rattle.count.specs.Rule.{Opening, exhausted, forward_of, late_of, opening}
 use Rattle.count.specs.declared.Record.{Record}
+use Rattle.count.specs.declared.Taken.{Taken}
 use Rattle.count.specs.declared.Taken.TheVariants.{Late, Forward}
+use Rattle.count.specs.declared.Missed.{Missed}
+use Rattle.count.specs.declared.Missed.TheVariants.{NoCandidate, WrongCode}
+use Rattle.nas_core.specs.Leaves.{read_as}
 use Rattle.count.proofs.Candidates.{late-at, forward-found, never, clash}
 use Rattle.count.proofs.Openings.{answers}
 use Rattle.count.proofs.Skipped.{forward-next}
@@ -48,3 +52,12 @@ late-near n c h = omega arith
 
 pub ahead-near : (n c : ℕ) → n < exhausted → n ≤ c + exhausted
 ahead-near n c h = omega arith
+
+-- what an opening takes a message as, named
+pub taken-as : (o : Opening) (t u : Taken) → o ≡ Ok t → t ≡ u → o ≡ Ok u
+taken-as o t u e f = e ∙ ap Ok f
+
+-- a message that is taken as none leaves the output
+pub missed-reads : (carried : ℕ → List ℕ) (out : List ℕ) (m : Missed) → read_as carried out (Err m) ≡ out
+missed-reads carried out NoCandidate = refl
+missed-reads carried out WrongCode = refl

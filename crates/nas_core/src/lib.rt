@@ -6,7 +6,7 @@ ghost use Rattle.count.specs.Rule.{exhausted, forward_of, late_of, try_forward};
 ghost use Rattle.refusals.specs.Order.{◌when◌, first};
 ghost use Rattle.refusals.specs.Numbers.{refused};
 ghost use Rattle.nas_core.specs.Refusals.{core_fault, send_refusals, hand_refusals, unbuilt, any_over, held_refusals};
-ghost use Rattle.nas_core.specs.Types.{wrong_type, ciphers};
+ghost use Rattle.nas_core.specs.Types.{wrong_type, ciphers, direction_no};
 ghost use Rattle.nas_core.specs.Keyed.{wraps, away_from_null, code_by, payload, protected};
 ghost use Rattle.nas_core.specs.Verify.{same, fits, verify_of, advanced};
 ghost use Rattle.nas_core.specs.Leaves.{read_as};
@@ -49,6 +49,24 @@ pub struct Received {
     pub distance: u32,
     pub wrote: usize,
     pub header_type: u8,
+}
+
+#[derive(Clone, Copy, Debug, PartialEq, Eq)]
+pub enum Direction {
+    Uplink,
+    Downlink,
+}
+
+impl Direction {
+    // As the algorithms take it.
+    pub fn number(self) -> u8
+        ensures { (result ≡ direction_no self) × (result < 2) }
+    {
+        match self {
+            Direction::Uplink => 0,
+            Direction::Downlink => 1,
+        }
+    }
 }
 
 // Whether one of two codes is not built.
@@ -182,13 +200,7 @@ impl Core {
 
     // The octets of `inner` over those of `out`, and ciphered there if they are to be.
     #[tactic(auto, unfolding(crate::specs::Keyed::payload))]
-    pub fn fill(
-        self,
-        ciphered: bool,
-        input: Input,
-        inner: &[u8],
-        out: &mut [u8],
-    )
+    pub fn fill(self, ciphered: bool, input: Input, inner: &[u8], out: &mut [u8])
         requires { length inner.now ≡ length out.old }
         ensures { out.new ≡ payload self ciphered input.count input.bearer input.direction inner.now }
     {
@@ -200,12 +212,7 @@ impl Core {
     }
 
     // What is behind the first octet ciphered where it lies, if it is to be, and the code of the whole then.
-    fn cipher_and_code(
-        self,
-        ciphered: bool,
-        input: Input,
-        octets: &mut [u8],
-    ) -> [u8; 4]
+    fn cipher_and_code(self, ciphered: bool, input: Input, octets: &mut [u8]) -> [u8; 4]
         requires { 1 ≤ length octets.old }
         ensures ciphered { octets.new ≡ take 1 octets.old ++ payload self ciphered input.count input.bearer input.direction (drop 1 octets.old) }
         ensures code { result ≡ code_by self input.count input.bearer input.direction octets.new }
@@ -272,14 +279,7 @@ impl Core {
     }
 
     // Whether the code that begins at octet `at` fits the COUNT; what is behind the COUNT's last octet goes to the output then, deciphered if it is to be.
-    fn take(
-        self,
-        ciphered: bool,
-        input: Input,
-        at: usize,
-        message: &[u8],
-        out: &mut [u8],
-    ) -> bool
+    fn take(self, ciphered: bool, input: Input, at: usize, message: &[u8], out: &mut [u8]) -> bool
         requires { at + 5 + length out.old ≡ length message.now }
         ensures fits { result ≡ fits self input.count input.bearer input.direction at message.now }
         ensures read { out.new ≡ cond result (payload self ciphered input.count input.bearer input.direction (drop (at + 5) message.now)) out.old }

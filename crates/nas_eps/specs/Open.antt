@@ -6,7 +6,7 @@ use Rattle.nas_core.specs.Types.{wrong_type, ciphers}
 use Rattle.nas_core.specs.Refusals.{hand_refusals}
 use Rattle.nas_core.specs.Keyed.{payload}
 use Rattle.nas_core.specs.Verify.{verify_of}
-use Rattle.nas_eps.specs.declared.Direction.{Direction}
+use Rattle.nas_core.specs.declared.Direction.{Direction}
 use Rattle.nas_eps.specs.declared.Context.{Context}
 use Rattle.nas_eps.specs.OpenAnswer.{OpenAnswer, Refused, Accepted, ServiceRequest}
 use Rattle.nas_eps.specs.Places.{downlink, place_of, record_at, fault_of}

@@ -4,9 +4,9 @@ use Rattle.count.specs.Rule.{use_late}
 use Rattle.count.specs.declared.Record.{Record}
 use Rattle.refusals.specs.Order.{◌when◌, first}
 use Rattle.nas_core.specs.Refusals.{core_fault, any_over}
+use Rattle.nas_core.specs.Types.{direction_no}
 use Rattle.nas_core.specs.Verify.{advanced}
-use Rattle.nas_eps.specs.declared.Direction.{Direction}
-use Rattle.nas_eps.specs.declared.Direction.TheVariants.{Uplink, Downlink}
+use Rattle.nas_core.specs.declared.Direction.{Direction}
 use Rattle.nas_eps.specs.declared.Context.{Context}
 
 -- a record's place is its direction's number
@@ -17,8 +17,7 @@ abbrev pub downlink : ℕ
 downlink = 1
 
 abbrev pub place_of : Direction → ℕ
-place_of Uplink = uplink
-place_of Downlink = downlink
+place_of = direction_no
 
 abbrev pub two : {A : Type 0} → (ℕ → A) → List A
 two f = f 0 ∷ f 1 ∷ []

@@ -4,7 +4,7 @@ use Rattle.count.specs.Rule.{exhausted}
 use Rattle.refusals.specs.Order.{◌when◌, first, refused_or}
 use Rattle.nas_core.specs.Types.{wrong_type}
 use Rattle.nas_core.specs.Refusals.{send_refusals}
-use Rattle.nas_eps.specs.declared.Direction.{Direction}
+use Rattle.nas_core.specs.declared.Direction.{Direction}
 use Rattle.nas_eps.specs.declared.Context.{Context}
 use Rattle.nas_core.specs.UseAnswer.{UseAnswer, Refused}
 use Rattle.nas_eps.specs.Places.{uplink, place_of, next_at, fault_of}

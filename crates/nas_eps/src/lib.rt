@@ -14,14 +14,9 @@ mod request;
 mod seal;
 
 use count::Record;
+pub use nas_core::Direction;
 use nas_core::{Core, Done, Received};
 use refusals::Refusal;
-
-#[derive(Clone, Copy, Debug, PartialEq, Eq)]
-pub enum Direction {
-    Uplink,
-    Downlink,
-}
 
 // Two records, uplink and downlink.
 #[repr(C)]
@@ -45,18 +40,6 @@ pub enum Opened {
 
 // The record of SERVICE REQUESTs.
 const UPLINK: usize = 0;
-
-impl Direction {
-    // It is the place of the direction's record too.
-    fn number(self) -> u8
-        ensures { (result ≡ place_of self) × (result < 2) }
-    {
-        match self {
-            Direction::Uplink => 0,
-            Direction::Downlink => 1,
-        }
-    }
-}
 
 impl Context {
     fn with(self, p: usize, rec: Record) -> Context

@@ -82,7 +82,13 @@ pub fn put(core: Core, header_type: u8, count: u32, direction: u8, inner: &[u8],
 }
 
 // The COUNT that a message's code fits; its plaintext goes to the front of the output then.
-pub fn verify(core: Core, rec: Record, direction: u8, message: &[u8], out: &mut [u8]) -> Result<Taken, Missed>
+pub fn verify(
+    core: Core,
+    rec: Record,
+    direction: u8,
+    message: &[u8],
+    out: &mut [u8],
+) -> Result<Taken, Missed>
     requires { (6 ≤ length message.now) × (length message.now - 6 ≤ length out.old) }
     ensures opening { result ≡ verify_of core rec bearer direction 1 message.now }
     ensures read { out.new ≡ read_as (λ n. over (payload core (ciphers (type_of message.now)) n bearer direction (drop 6 message.now)) out.old) out.old result }

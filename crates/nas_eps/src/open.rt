@@ -23,12 +23,7 @@ fn check_way(direction: Direction) -> Result<(), Refusal>
 }
 
 impl Context {
-    fn check_open(
-        self,
-        direction: Direction,
-        message: &[u8],
-        room: usize,
-    ) -> Result<(), Refusal>
+    fn check_open(self, direction: Direction, message: &[u8], room: usize) -> Result<(), Refusal>
         ensures { refused result ≡ open_refusal self (place_of direction) message.now room }
     {
         self.check()?;
@@ -53,9 +48,12 @@ impl Context {
         let rec = self.records[p];
         let header_type = message[0] / 16;
         let wrote = message.len() - octets::HEADER;
-        match octets::verify(core, rec, direction, message, out) {
-            Err(missed) => self.unchanged(Err(Refusal::from(missed))),
-            Ok(Taken::Late(count)) => Done {
+        let taken = match octets::verify(core, rec, direction, message, out) {
+            Ok(taken) => taken,
+            Err(missed) => return self.unchanged(Err(Refusal::from(missed))),
+        };
+        match taken {
+            Taken::Late(count) => Done {
                 answer: Ok(Opened::Message(Received {
                     count,
                     distance: rec.distance_to(count),
@@ -64,7 +62,7 @@ impl Context {
                 })),
                 context: self.used_late(p, count),
             },
-            Ok(Taken::Forward(count)) => Done {
+            Taken::Forward(count) => Done {
                 answer: Ok(Opened::Message(Received {
                     count,
                     distance: rec.distance_to(count),

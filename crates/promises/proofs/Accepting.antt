@@ -26,8 +26,8 @@ use Rattle.initial.specs.Messages.{is_initial}
 use Rattle.initial.specs.Outer.{is_hideable, outer_length}
 use Rattle.envelope.specs.Initial.{initial_envelope}
 use Rattle.nas_5gs.specs.declared.Context.{Context}
-use Rattle.nas_5gs.specs.declared.Direction.{Direction}
-use Rattle.nas_5gs.specs.declared.Direction.TheVariants.{Uplink}
+use Rattle.nas_core.specs.declared.Direction.{Direction}
+use Rattle.nas_core.specs.declared.Direction.TheVariants.{Uplink}
 use Rattle.nas_5gs.specs.declared.Connection.{Connection}
 use Rattle.nas_5gs.specs.Places.{direction_no, bearer_no, place_of, record_at, next_at, fault_of}
 use Rattle.nas_5gs.specs.Leaves.{use_next, received, verify_values, refusal}

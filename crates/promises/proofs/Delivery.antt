@@ -14,7 +14,7 @@ use Rattle.refusals.proofs.Laws.{passed, off}
 use Rattle.look.specs.Look.{is_mobility, is_session, way_in, not_known}
 use Rattle.nas_core.specs.Refusals.{limit}
 use Rattle.nas_5gs.specs.Places.{bearer_no, direction_no, place_of}
-use Rattle.nas_5gs.specs.declared.Direction.TheVariants.{Uplink}
+use Rattle.nas_core.specs.declared.Direction.TheVariants.{Uplink}
 use Rattle.nas_5gs.specs.Seal.{seal_refusals, seal_refusal, opaque_refusals, opaque_refusal}
 use Rattle.nas_5gs.specs.Initial.{initial_refusals, initial_refusal}
 use Rattle.nas_5gs.proofs.Passed.{initial-whole}

@@ -23,8 +23,8 @@ use Rattle.initial.specs.Outer.{outer_length}
 use Rattle.envelope.specs.Initial.{initial_envelope, beside}
 use Rattle.envelope.proofs.Lengths.{initial-length}
 use Rattle.nas_5gs.specs.declared.Context.{Context}
-use Rattle.nas_5gs.specs.declared.Direction.{Direction}
-use Rattle.nas_5gs.specs.declared.Direction.TheVariants.{Uplink}
+use Rattle.nas_core.specs.declared.Direction.{Direction}
+use Rattle.nas_core.specs.declared.Direction.TheVariants.{Uplink}
 use Rattle.nas_5gs.specs.declared.Connection.{Connection}
 use Rattle.nas_core.specs.UseAnswer as use'
 use Rattle.nas_5gs.specs.OpenAnswer as open'

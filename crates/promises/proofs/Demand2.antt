@@ -26,8 +26,8 @@ use Rattle.envelope.proofs.Insides.{asked_is}
 use Rattle.envelope.proofs.Lengths.{initial-length}
 use Rattle.nas_5gs.proofs.Passed.{initial-is, initial-whole}
 use Rattle.nas_5gs.specs.declared.Context.{Context}
-use Rattle.nas_5gs.specs.declared.Direction.{Direction}
-use Rattle.nas_5gs.specs.declared.Direction.TheVariants.{Uplink}
+use Rattle.nas_core.specs.declared.Direction.{Direction}
+use Rattle.nas_core.specs.declared.Direction.TheVariants.{Uplink}
 use Rattle.nas_5gs.specs.declared.Connection.{Connection}
 use Rattle.nas_5gs.specs.OpenAnswer as open'
 use Rattle.nas_5gs.specs.EpsOpenAnswer as eps

@@ -18,8 +18,8 @@ use Rattle.refusals.proofs.Laws.{passed, off}
 use Rattle.nas_core.specs.Keyed.{wraps, away_from_null}
 use Rattle.nas_core.specs.Refusals.{unbuilt}
 use Rattle.nas_5gs.specs.declared.Context.{Context}
-use Rattle.nas_5gs.specs.declared.Direction.{Direction}
-use Rattle.nas_5gs.specs.declared.Direction.TheVariants.{Uplink, Downlink}
+use Rattle.nas_core.specs.declared.Direction.{Direction}
+use Rattle.nas_core.specs.declared.Direction.TheVariants.{Uplink, Downlink}
 use Rattle.nas_5gs.specs.declared.Connection.{Connection}
 use Rattle.nas_5gs.specs.declared.Connection.TheVariants.{ThreeGpp, Non3Gpp}
 use Rattle.nas_core.specs.ChangeAnswer.{Refused, Done}

@@ -17,7 +17,7 @@ use Rattle.nas_core.specs.Keyed.{wraps, away_from_null}
 use Rattle.nas_core.specs.Refusals.{unbuilt, core_refusals, core_fault}
 use Rattle.nas_core.specs.Verify.{fits, verify_of}
 use Rattle.nas_5gs.specs.declared.Context.{Context}
-use Rattle.nas_5gs.specs.declared.Direction.TheVariants.{Uplink}
+use Rattle.nas_core.specs.declared.Direction.TheVariants.{Uplink}
 use Rattle.nas_5gs.specs.Places.{direction_no, bearer_no, place_of, four, record_at, next_at, any_over, context_refusals, fault_of}
 use Rattle.nas_5gs.specs.Eps.{eps_place, eps_bearer, eps_direction}
 use Rattle.nas_5gs.specs.Containers.{container_place}

@@ -15,7 +15,7 @@ use Rattle.nas_core.specs.Keyed.{wraps, payload}
 use Rattle.nas_core.specs.Refusals.{limit}
 use Rattle.nas_core.specs.Verify.{fits, verify_of}
 use Rattle.nas_5gs.specs.declared.Context.{Context}
-use Rattle.nas_5gs.specs.declared.Direction.{Direction}
+use Rattle.nas_core.specs.declared.Direction.{Direction}
 use Rattle.nas_5gs.specs.declared.Connection.{Connection}
 use Rattle.nas_5gs.specs.Places.{direction_no, bearer_no, place_of, record_at, fault_of}
 use Rattle.nas_5gs.specs.Envelope.{ciphers, envelope}

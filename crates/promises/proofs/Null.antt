@@ -19,7 +19,7 @@ use Rattle.algorithms.specs.Codes.{code_of}
 use Rattle.nas_core.specs.Keyed.{wraps, code_by}
 use Rattle.nas_core.specs.Verify.{fits, verify_of}
 use Rattle.nas_5gs.specs.declared.Context.{Context}
-use Rattle.nas_5gs.specs.declared.Direction.TheVariants.{Uplink}
+use Rattle.nas_core.specs.declared.Direction.TheVariants.{Uplink}
 use Rattle.nas_5gs.specs.OpenAnswer as open'
 use Rattle.nas_5gs.specs.EpsOpenAnswer as eps
 use Rattle.nas_5gs.specs.Places.{direction_no, bearer_no, place_of, record_at, next_at}

@@ -17,7 +17,7 @@ use Rattle.initial.specs.Outer.{is_hideable, outer_length}
 use Rattle.initial.specs.Inside.{Hidden}
 use Rattle.envelope.specs.Initial.{is_refused}
 use Rattle.nas_5gs.specs.declared.Context.{Context}
-use Rattle.nas_5gs.specs.declared.Direction.TheVariants.{Uplink}
+use Rattle.nas_core.specs.declared.Direction.TheVariants.{Uplink}
 use Rattle.nas_5gs.specs.Places.{direction_no, place_of, four, next_at, any_over, fault_of}
 use Rattle.nas_5gs.specs.Envelope.{wrong_type}
 use Rattle.nas_5gs.specs.Seal.{seal_refusals, seal_refusal, opaque_refusals, opaque_refusal}

@@ -10,7 +10,7 @@ use Rattle.aes.specs.Keys.{key_of}
 use Rattle.refusals.specs.Order.{refused_or}
 use Rattle.envelope.specs.Initial.{initial_envelope}
 use Rattle.nas_5gs.specs.declared.Context.{Context}
-use Rattle.nas_5gs.specs.declared.Direction.TheVariants.{Uplink}
+use Rattle.nas_core.specs.declared.Direction.TheVariants.{Uplink}
 use Rattle.nas_core.specs.ChangeAnswer as change
 use Rattle.nas_core.specs.UseAnswer as use'
 use Rattle.nas_5gs.specs.OpenAnswer as open'

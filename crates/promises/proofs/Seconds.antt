@@ -1,5 +1,5 @@
 -- The second output: what a call leaves there.
-use Rattle.std.specs.Prelude.{Ok, Err}
+use Rattle.std.specs.Prelude.{Option, None, Some, Result, Ok, Err}
 use Prim.Native.Nat.{ℕ, ◌-◌, ◌≤◌}
 use mathlib.Core.Path.{◌≡◌, refl, sym, ap, ◌∙◌}
 use mathlib.Core.Bool.{Bool, true, false, cond}
@@ -15,14 +15,14 @@ use Rattle.count.specs.declared.Missed.TheVariants.{NoCandidate, WrongCode}
 use Rattle.nas_core.specs.declared.Core.{Core}
 use Rattle.nas_core.specs.Keyed.{payload}
 use Rattle.nas_core.proofs.Keys.{payload-length}
-use Rattle.initial.specs.declared.Container.{Container}
-use Rattle.initial.specs.declared.Container.TheVariants.{Fails, Absent, At}
+use Rattle.initial.specs.declared.Span.{Span}
+use Rattle.initial.specs.declared.Unwalkable.{Unwalkable}
 use Rattle.initial.specs.Walk.{container_of}
 use Rattle.initial.specs.Inside.{Hidden, refused, handed, is_asked, is_inside, value_at, of_type, hidden_in, hidden_of}
 use Rattle.envelope.specs.Initial.{beside_of, beside}
 use Rattle.envelope.proofs.Insides.{asked_is}
 use Rattle.nas_5gs.specs.declared.Context.{Context}
-use Rattle.nas_5gs.specs.declared.Direction.{Direction}
+use Rattle.nas_core.specs.declared.Direction.{Direction}
 use Rattle.nas_5gs.specs.declared.Connection.{Connection}
 use Rattle.nas_5gs.specs.OpenAnswer as open'
 use Rattle.nas_5gs.specs.Places.{direction_no, bearer_no, place_of, record_at}
@@ -79,11 +79,11 @@ type-short p q n h = go (is_inside p q)
     go false = omega arith
 
 module _ (x : Core) (t c b d : ℕ) (p : List ℕ) (n : ℕ) where
-  in-short : (o : Container) → length p ≤ n → length (beside (hidden_in (λ v. payload x true c b 0 v) p o)) ≤ n
-  in-short Fails h = omega arith
-  in-short Absent h = omega arith
-  in-short (At start k) h =
-      let v = value_at p start k in
+  in-short : (o : Result (Option Span) Unwalkable) → length p ≤ n → length (beside (hidden_in (λ v. payload x true c b 0 v) p o)) ≤ n
+  in-short (Err e) h = omega arith
+  in-short (Ok None) h = omega arith
+  in-short (Ok (Some s)) h =
+      let v = value_at p s.start s.length in
       let l : length v ≤ length p = simp (length-take, length-drop) (omega arith) in
       type-short p (payload x true c b 0 v) n (omega (arith, payload-length x c b 0 v true))
 

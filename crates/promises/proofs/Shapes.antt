@@ -25,8 +25,8 @@ use Rattle.look.specs.Look.{look_of}
 use Rattle.initial.specs.Inside.{Hidden}
 use Rattle.envelope.specs.Initial.{initial_envelope, beside_of, beside}
 use Rattle.nas_5gs.specs.declared.Context.{Context}
-use Rattle.nas_5gs.specs.declared.Direction.{Direction}
-use Rattle.nas_5gs.specs.declared.Direction.TheVariants.{Uplink}
+use Rattle.nas_core.specs.declared.Direction.{Direction}
+use Rattle.nas_core.specs.declared.Direction.TheVariants.{Uplink}
 use Rattle.nas_5gs.specs.declared.Connection.{Connection}
 use Rattle.nas_core.specs.ChangeAnswer as change
 use Rattle.nas_core.specs.UseAnswer as use'

@@ -14,7 +14,7 @@ use Rattle.nas_core.specs.Keyed.{payload}
 use Rattle.nas_core.specs.Refusals.{limit, unbuilt, core_fault}
 use Rattle.envelope.specs.Initial.{beside}
 use Rattle.nas_5gs.specs.declared.Context.{Context}
-use Rattle.nas_5gs.specs.declared.Direction.{Direction}
+use Rattle.nas_core.specs.declared.Direction.{Direction}
 use Rattle.nas_5gs.specs.declared.Connection.{Connection}
 use Rattle.nas_5gs.specs.OpenAnswer as open'
 use Rattle.nas_5gs.specs.EpsOpenAnswer as eps

@@ -34,7 +34,7 @@ use Rattle.nas_5gs.specs.OctetAnswer.{OctetAnswer}
 use Rattle.nas_5gs.specs.OctetAnswer as octet
 use Rattle.nas_5gs.specs.VerifyAnswer.{VerifyAnswer}
 use Rattle.nas_5gs.specs.VerifyAnswer as verify
-use Rattle.nas_5gs.specs.declared.Direction.TheVariants.{Uplink}
+use Rattle.nas_core.specs.declared.Direction.TheVariants.{Uplink}
 use Rattle.nas_5gs.specs.declared.Connection.TheVariants.{ThreeGpp}
 use Rattle.nas_5gs.specs.Places.{place_of, record_at, next_at}
 use Rattle.nas_5gs.specs.Leaves.{LeavesTwo, leaves_two, Leaves, leaves, Values, change_values, use_values, open_values, eps_open_values, octet_values, verify_values}

@@ -2,8 +2,8 @@
 -- Crate covers calls each function and proves that it leaves what stands here, from the function's contract alone.
 use Rattle.std.specs.Prelude.{ℕ, cond, List, [], ◌∷◌, ◌++◌, eqb}
 use Rattle.nas_5gs.specs.declared.Context.{Context}
-use Rattle.nas_5gs.specs.declared.Direction.{Direction}
-use Rattle.nas_5gs.specs.declared.Direction.TheVariants.{Uplink}
+use Rattle.nas_core.specs.declared.Direction.{Direction}
+use Rattle.nas_core.specs.declared.Direction.TheVariants.{Uplink}
 use Rattle.nas_5gs.specs.declared.Connection.{Connection}
 use Rattle.nas_5gs.specs.Places.{place_of, next_at}
 use Rattle.nas_5gs.specs.Leaves.{Leaves, leaves, LeavesTwo, leaves_two, change_values, use_values, open_values, eps_open_values, octet_values, verify_values}

@@ -9,7 +9,7 @@ use Rattle.count.specs.Run.{In}
 use Rattle.nas_core.specs.Keyed.{payload}
 use Rattle.look.specs.Look.{look_of}
 use Rattle.nas_5gs.specs.declared.Context.{Context}
-use Rattle.nas_5gs.specs.declared.Direction.{Direction}
+use Rattle.nas_core.specs.declared.Direction.{Direction}
 use Rattle.nas_5gs.specs.declared.Connection.{Connection}
 use Rattle.nas_5gs.specs.Places.{direction_no, bearer_no, place_of, fault_of, used, used_late}
 use Rattle.nas_5gs.specs.Leaves.{over, refusal, success}

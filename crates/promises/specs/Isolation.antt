@@ -1,7 +1,7 @@
 -- "Calls on one record leave the other three as they were, and their answers, save for window size and reselection."
 use Rattle.std.specs.Prelude.{ℕ, ◌<◌, ◌≡◌, List, [], ◌∷◌, length}
 use Rattle.nas_5gs.specs.declared.Context.{Context}
-use Rattle.nas_5gs.specs.declared.Direction.{Direction}
+use Rattle.nas_core.specs.declared.Direction.{Direction}
 use Rattle.nas_5gs.specs.declared.Connection.{Connection}
 use Rattle.nas_5gs.specs.Places.{place_of, record_at}
 use Rattle.promises.specs.Calls.{Call, gives, second, place_in, context_after}

@@ -5,7 +5,7 @@ use Rattle.count.specs.Rule.{exhausted, distance}
 use Rattle.nas_core.specs.Keyed.{wraps, code_by}
 use Rattle.nas_core.specs.Refusals.{limit}
 use Rattle.nas_5gs.specs.declared.Context.{Context}
-use Rattle.nas_5gs.specs.declared.Direction.{Direction}
+use Rattle.nas_core.specs.declared.Direction.{Direction}
 use Rattle.nas_5gs.specs.declared.Connection.{Connection}
 use Rattle.nas_5gs.specs.Places.{direction_no, place_of, record_at, next_at, fault_of}
 use Rattle.nas_5gs.specs.Open.{type_of, open_refusal, room_for}

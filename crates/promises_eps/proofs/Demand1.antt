@@ -21,8 +21,8 @@ use Rattle.nas_core.specs.Keyed.{wraps}
 use Rattle.nas_core.specs.Refusals.{unbuilt, any_over, core_fault}
 use Rattle.nas_core.proofs.Keys.{payload-length}
 use Rattle.nas_eps.specs.declared.Context.{Context}
-use Rattle.nas_eps.specs.declared.Direction.{Direction}
-use Rattle.nas_eps.specs.declared.Direction.TheVariants.{Downlink}
+use Rattle.nas_core.specs.declared.Direction.{Direction}
+use Rattle.nas_core.specs.declared.Direction.TheVariants.{Downlink}
 use Rattle.nas_core.specs.UseAnswer as use'
 use Rattle.nas_eps.specs.OpenAnswer as open'
 use Rattle.nas_eps.specs.Places.{uplink, downlink, place_of, record_at, next_at, fault_of, used, used_late}

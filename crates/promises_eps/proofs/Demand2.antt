@@ -25,8 +25,8 @@ use Rattle.nas_core.specs.Keyed.{wraps, payload}
 use Rattle.nas_core.specs.Refusals.{limit, hand_refusals}
 use Rattle.nas_core.specs.Verify.{fits, verify_of}
 use Rattle.nas_eps.specs.declared.Context.{Context}
-use Rattle.nas_eps.specs.declared.Direction.{Direction}
-use Rattle.nas_eps.specs.declared.Direction.TheVariants.{Uplink, Downlink}
+use Rattle.nas_core.specs.declared.Direction.{Direction}
+use Rattle.nas_core.specs.declared.Direction.TheVariants.{Uplink, Downlink}
 use Rattle.nas_eps.specs.OpenAnswer as open'
 use Rattle.nas_eps.specs.Places.{uplink, downlink, place_of, record_at, next_at, fault_of}
 use Rattle.nas_eps.specs.Leaves.{use_next, open_values, refusal}

@@ -17,8 +17,8 @@ use Rattle.refusals.proofs.Laws.{passed, off}
 use Rattle.nas_core.specs.Keyed.{wraps, away_from_null, core_with}
 use Rattle.nas_core.specs.Refusals.{unbuilt}
 use Rattle.nas_eps.specs.declared.Context.{Context}
-use Rattle.nas_eps.specs.declared.Direction.{Direction}
-use Rattle.nas_eps.specs.declared.Direction.TheVariants.{Uplink, Downlink}
+use Rattle.nas_core.specs.declared.Direction.{Direction}
+use Rattle.nas_core.specs.declared.Direction.TheVariants.{Uplink, Downlink}
 use Rattle.nas_core.specs.ChangeAnswer.{Refused, Done}
 use Rattle.nas_eps.specs.Places.{uplink, place_of, two, record_at, next_at, fault_of}
 use Rattle.nas_eps.specs.Leaves.{leaves}

@@ -16,7 +16,7 @@ use Rattle.count.specs.Run.{State, Act, stay, uses, resize, close, act, act_of}
 use Rattle.count.proofs.Lifting.{others}
 use Rattle.nas_core.specs.Keyed.{wraps}
 use Rattle.nas_eps.specs.declared.Context.{Context}
-use Rattle.nas_eps.specs.declared.Direction.TheVariants.{Uplink, Downlink}
+use Rattle.nas_core.specs.declared.Direction.TheVariants.{Uplink, Downlink}
 use Rattle.nas_eps.specs.OpenAnswer as open'
 use Rattle.nas_eps.specs.Places.{uplink, place_of, record_at, fault_of}
 use Rattle.nas_eps.specs.Leaves.{leaves, over, use_next, received, Values, open_values}

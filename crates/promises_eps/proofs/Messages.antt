@@ -16,8 +16,8 @@ use Rattle.nas_core.specs.Keyed.{wraps, code_by, payload}
 use Rattle.nas_core.specs.Refusals.{limit}
 use Rattle.nas_core.specs.Verify.{fits}
 use Rattle.nas_eps.specs.declared.Context.{Context}
-use Rattle.nas_eps.specs.declared.Direction.{Direction}
-use Rattle.nas_eps.specs.declared.Direction.TheVariants.{Uplink}
+use Rattle.nas_core.specs.declared.Direction.{Direction}
+use Rattle.nas_core.specs.declared.Direction.TheVariants.{Uplink}
 use Rattle.nas_eps.specs.Places.{uplink, place_of, record_at, fault_of}
 use Rattle.nas_eps.specs.Octets.{bearer, message, type_of, service_request, short_code, short_fits, request_as}
 use Rattle.nas_eps.specs.Open.{open_refusal}

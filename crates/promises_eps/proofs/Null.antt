@@ -19,8 +19,8 @@ use Rattle.algorithms.specs.Codes.{code_of}
 use Rattle.nas_core.specs.Keyed.{wraps, code_by}
 use Rattle.nas_core.specs.Verify.{fits, verify_of}
 use Rattle.nas_eps.specs.declared.Context.{Context}
-use Rattle.nas_eps.specs.declared.Direction.{Direction}
-use Rattle.nas_eps.specs.declared.Direction.TheVariants.{Uplink}
+use Rattle.nas_core.specs.declared.Direction.{Direction}
+use Rattle.nas_core.specs.declared.Direction.TheVariants.{Uplink}
 use Rattle.nas_eps.specs.OpenAnswer as open'
 use Rattle.nas_eps.specs.Places.{uplink, place_of, record_at, next_at}
 use Rattle.nas_eps.specs.Leaves.{open_values}
@@ -61,7 +61,7 @@ round-used close s c r e = elim r [ ]
 
 -- the candidate that goes round, where every code passes
 round-found : (k : ℕ) (fit : ℕ → Bool) (s : State) (o : ℕ) → ((c : ℕ) → fit c ≡ true) → s.at.next < exhausted
-    → forward_only k true fit s.at o ≡ Forward ((s.at.next + distance k s.at.next o) % exhausted)
+    → forward_only k true fit s.at o ≡ Ok (Forward ((s.at.next + distance k s.at.next o) % exhausted))
 unfolding forward_only
 round-found k fit s o all h =
     let c = (s.at.next + distance k s.at.next o) % exhausted in

@@ -21,7 +21,7 @@ use Rattle.nas_core.specs.declared.Core.{Core}
 use Rattle.nas_core.specs.Keyed.{wraps}
 use Rattle.nas_core.specs.Verify.{fits, verify_of}
 use Rattle.nas_eps.specs.declared.Context.{Context}
-use Rattle.nas_eps.specs.declared.Direction.{Direction}
+use Rattle.nas_core.specs.declared.Direction.{Direction}
 use Rattle.nas_eps.specs.Places.{place_of, record_at, next_at, fault_of}
 use Rattle.nas_eps.specs.Leaves.{use_next, open_values}
 use Rattle.nas_eps.specs.Octets.{bearer, is_request, short_fits, request_as}

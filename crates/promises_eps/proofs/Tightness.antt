@@ -9,7 +9,7 @@ use Rattle.algorithms.specs.Codes.{is_built}
 use Rattle.count.specs.Run.{NoneTwice}
 use Rattle.nas_core.specs.Refusals.{unbuilt}
 use Rattle.nas_eps.specs.declared.Context.{Context}
-use Rattle.nas_eps.specs.declared.Direction.TheVariants.{Uplink}
+use Rattle.nas_core.specs.declared.Direction.TheVariants.{Uplink}
 use Rattle.nas_eps.specs.Leaves.{change_values}
 use Rattle.nas_eps.specs.Changes.{context_with, new_of}
 use Rattle.nas_eps.specs.Octets.{service_request}

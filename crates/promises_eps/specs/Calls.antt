@@ -2,7 +2,7 @@
 -- contracts cite. Crate covers_eps calls each function and proves that it leaves what stands here, from the function's contract alone.
 use Rattle.std.specs.Prelude.{ℕ, cond, List, [], ◌∷◌, ◌++◌, eqb}
 use Rattle.nas_eps.specs.declared.Context.{Context}
-use Rattle.nas_eps.specs.declared.Direction.{Direction}
+use Rattle.nas_core.specs.declared.Direction.{Direction}
 use Rattle.nas_eps.specs.Places.{uplink, place_of, next_at}
 use Rattle.nas_eps.specs.Leaves.{change_values, use_values, open_values}
 use Rattle.nas_eps.specs.Changes.{new_of, restore_of, reselect_of, window_of}

@@ -2,8 +2,8 @@
 use Rattle.std.specs.Prelude.{ℕ, ◌≤◌, ◌≡◌, true, List, length}
 use Rattle.nas_core.specs.Verify.{fits}
 use Rattle.nas_eps.specs.declared.Context.{Context}
-use Rattle.nas_eps.specs.declared.Direction.{Direction}
-use Rattle.nas_eps.specs.declared.Direction.TheVariants.{Uplink}
+use Rattle.nas_core.specs.declared.Direction.{Direction}
+use Rattle.nas_core.specs.declared.Direction.TheVariants.{Uplink}
 use Rattle.nas_eps.specs.Places.{uplink, place_of}
 use Rattle.nas_eps.specs.Octets.{bearer}
 use Rattle.promises_eps.specs.Calls.{Call, seal_message, seal_request, open_message, gives, context_after}

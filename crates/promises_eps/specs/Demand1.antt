@@ -9,8 +9,8 @@ use Rattle.count.specs.Run.{In}
 use Rattle.nas_core.specs.Types.{ciphers}
 use Rattle.nas_core.specs.Keyed.{payload, core_with}
 use Rattle.nas_eps.specs.declared.Context.{Context}
-use Rattle.nas_eps.specs.declared.Direction.{Direction}
-use Rattle.nas_eps.specs.declared.Direction.TheVariants.{Downlink}
+use Rattle.nas_core.specs.declared.Direction.{Direction}
+use Rattle.nas_core.specs.declared.Direction.TheVariants.{Downlink}
 use Rattle.nas_eps.specs.Places.{place_of, fault_of, used, used_late}
 use Rattle.nas_eps.specs.Leaves.{over, refusal, success}
 use Rattle.nas_eps.specs.Changes.{context_with, refused_context, kept_for, resized}

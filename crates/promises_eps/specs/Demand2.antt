@@ -7,8 +7,8 @@ use Rattle.nas_core.specs.Keyed.{wraps, code_by, payload}
 use Rattle.nas_core.specs.Refusals.{limit}
 use Rattle.nas_core.specs.Verify.{same, fits}
 use Rattle.nas_eps.specs.declared.Context.{Context}
-use Rattle.nas_eps.specs.declared.Direction.{Direction}
-use Rattle.nas_eps.specs.declared.Direction.TheVariants.{Uplink}
+use Rattle.nas_core.specs.declared.Direction.{Direction}
+use Rattle.nas_core.specs.declared.Direction.TheVariants.{Uplink}
 use Rattle.nas_eps.specs.Places.{uplink, place_of, record_at, next_at, fault_of}
 use Rattle.nas_eps.specs.Leaves.{refusal}
 use Rattle.nas_eps.specs.Octets.{bearer, message, is_request, service_request, short_fits}

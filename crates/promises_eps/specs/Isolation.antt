@@ -1,7 +1,7 @@
 -- "Isolation (calls on one record leave the other and its answers, save window size and reselection)".
 use Rattle.std.specs.Prelude.{ℕ, ◌<◌, ◌≡◌, List, [], ◌∷◌, length}
 use Rattle.nas_eps.specs.declared.Context.{Context}
-use Rattle.nas_eps.specs.declared.Direction.{Direction}
+use Rattle.nas_core.specs.declared.Direction.{Direction}
 use Rattle.nas_eps.specs.Places.{place_of, record_at}
 use Rattle.promises_eps.specs.Calls.{Call, gives, place_in, context_after}
 

@@ -4,8 +4,8 @@ use Rattle.std.specs.Prelude.{ℕ, ◌+◌, ◌%◌, ◌≤◌, ◌<◌, ◌≡�
 use Rattle.count.specs.Rule.{exhausted, distance}
 use Rattle.nas_core.specs.Keyed.{wraps, code_by}
 use Rattle.nas_eps.specs.declared.Context.{Context}
-use Rattle.nas_eps.specs.declared.Direction.{Direction}
-use Rattle.nas_eps.specs.declared.Direction.TheVariants.{Uplink}
+use Rattle.nas_core.specs.declared.Direction.{Direction}
+use Rattle.nas_core.specs.declared.Direction.TheVariants.{Uplink}
 use Rattle.nas_eps.specs.Places.{uplink, place_of, record_at, next_at}
 use Rattle.nas_eps.specs.Octets.{is_request, short_code}
 use Rattle.nas_eps.specs.Open.{open_refusal}

@@ -1,7 +1,7 @@
 -- All that is promised of the EPS context, in one: of every call, every context, every output.
 use Rattle.std.specs.Prelude.{◌≡◌, List, ℕ}
 use Rattle.nas_eps.specs.declared.Context.{Context}
-use Rattle.nas_eps.specs.declared.Direction.{Direction}
+use Rattle.nas_core.specs.declared.Direction.{Direction}
 use Rattle.nas_eps.specs.Places.{fault_of}
 use Rattle.promises_eps.specs.Calls.{Call, open_message, gives}
 use Rattle.promises_eps.specs.Words.{Succeeds}

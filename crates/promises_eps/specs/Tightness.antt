@@ -2,7 +2,7 @@
 use Rattle.std.specs.Prelude.{ℕ, ◌≤◌, ◌<◌, ◌≡◌, true, List}
 use Rattle.count.specs.Rule.{exhausted}
 use Rattle.nas_eps.specs.declared.Context.{Context}
-use Rattle.nas_eps.specs.declared.Direction.TheVariants.{Uplink}
+use Rattle.nas_core.specs.declared.Direction.TheVariants.{Uplink}
 use Rattle.nas_core.specs.ChangeAnswer.{ChangeAnswer}
 use Rattle.nas_core.specs.UseAnswer.{UseAnswer}
 use Rattle.nas_eps.specs.OpenAnswer.{OpenAnswer}

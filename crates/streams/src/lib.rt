@@ -88,6 +88,7 @@ fn cover(l: &mut [u8], i: usize, k: [u8; 4], n: usize)
     requires { (n ≤ 4) × (i + n ≤ length l.old) }
     ensures { l.new ≡ covered l.old i k n }
 {
+    // kept: by its index, since a proof knows of what iter_mut lent only the length
     for j in 0..n {
         l[i + j] ^= k[j];
     }

@@ -11,7 +11,7 @@ use Rattle.count.specs.Run.{State, Act, uses, resize, forward, act, used}
 use Rattle.count.specs.Machine.{seen}
 use Rattle.nas_core.specs.Keyed.{wraps}
 use Rattle.nas_eps.specs.declared.Context.{Context}
-use Rattle.nas_eps.specs.declared.Direction.{Direction}
+use Rattle.nas_core.specs.declared.Direction.{Direction}
 use Rattle.nas_eps.specs.OpenAnswer as open'
 use Rattle.nas_eps.specs.Places.{place_of, next_at}
 use Rattle.nas_eps.specs.Leaves.{use_next, open_values}

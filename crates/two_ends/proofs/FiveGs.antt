@@ -16,8 +16,8 @@ use Rattle.nas_core.specs.declared.Core.{Core}
 use Rattle.nas_core.specs.Keyed.{wraps}
 use Rattle.nas_core.specs.Refusals.{limit}
 use Rattle.nas_5gs.specs.declared.Context.{Context}
-use Rattle.nas_5gs.specs.declared.Direction.{Direction}
-use Rattle.nas_5gs.specs.declared.Direction.TheVariants.{Uplink, Downlink}
+use Rattle.nas_core.specs.declared.Direction.{Direction}
+use Rattle.nas_core.specs.declared.Direction.TheVariants.{Uplink, Downlink}
 use Rattle.nas_5gs.specs.declared.Connection.{Connection}
 use Rattle.nas_5gs.specs.OpenAnswer as open'
 use Rattle.nas_5gs.specs.EpsOpenAnswer as eps'

@@ -5,7 +5,7 @@ use Rattle.nas_core.specs.declared.Core.{Core}
 use Rattle.nas_core.specs.Leaves.{refusal}
 use Rattle.nas_core.specs.Verify.{fits}
 use Rattle.nas_eps.specs.declared.Context.{Context}
-use Rattle.nas_eps.specs.declared.Direction.{Direction}
+use Rattle.nas_core.specs.declared.Direction.{Direction}
 use Rattle.nas_eps.specs.Places.{place_of}
 use Rattle.nas_eps.specs.Octets.{bearer}
 use Rattle.promise.specs.Outcomes.{SameKeys, TakenAs}

@@ -6,8 +6,8 @@ use Rattle.nas_core.specs.declared.Core.{Core}
 use Rattle.nas_core.specs.Leaves.{refusal}
 use Rattle.nas_core.specs.Verify.{fits}
 use Rattle.nas_5gs.specs.declared.Context.{Context}
-use Rattle.nas_5gs.specs.declared.Direction.{Direction}
-use Rattle.nas_5gs.specs.declared.Direction.TheVariants.{Uplink}
+use Rattle.nas_core.specs.declared.Direction.{Direction}
+use Rattle.nas_core.specs.declared.Direction.TheVariants.{Uplink}
 use Rattle.nas_5gs.specs.declared.Connection.{Connection}
 use Rattle.nas_5gs.specs.Places.{direction_no, bearer_no, place_of}
 use Rattle.nas_5gs.specs.Eps.{eps_bearer, eps_direction}

@@ -4,7 +4,7 @@ use Prim.Native.Nat.{ℕ}
 use lib.ListN.{length}
 use Rattle.refusals.proofs.Laws.{number-not0}
 use Rattle.nas_5gs.proofs.Passed.{open-passed, rooms}
-use Rattle.nas_5gs.specs.declared.Direction.{Direction}
+use Rattle.nas_core.specs.declared.Direction.{Direction}
 use Rattle.nas_5gs.specs.declared.Connection.{Connection}
 use Rattle.nas_5gs.specs.declared.Context.{Context}
 use Rattle.nas_5gs.specs.OpenAnswer.{OpenAnswer}
@@ -23,7 +23,7 @@ receive-requires c =
 pub returns-in-Err : goal.returns-in-Err
 unfolding open_of
 returns-in-Err c =
-    let told = rw (c.room_for-room.ensures, c.number-d.ensures) at c.in-Err.ensures in
+    let told = rw (c.room_for-room.ensures, c.number-d.ensures.0) at c.in-Err.ensures in
     simp (c.unchanged.ensures.0, c.unchanged.ensures.1, sym told, number-not0 c.in-Err.refusal)
 
 -- not refused: what `receive` leaves
@@ -36,4 +36,4 @@ passes x d k m out second p b dn r pe be de z e = rw (sym pe, sym be, sym de, z)
 pub returns-in-Ok : goal.returns-in-Ok
 returns-in-Ok c =
     let told = rw c.room_for-room.ensures at c.in-Ok.ensures in
-    passes _ _ _ _ _ _ _ _ _ _ c.place-p.ensures.0 c.bearer.ensures c.number-d.ensures (sym told) c.receive.ensures
+    passes _ _ _ _ _ _ _ _ _ _ c.place-p.ensures.0 c.bearer.ensures c.number-d.ensures.0 (sym told) c.receive.ensures

@@ -1,5 +1,5 @@
 use Rattle.envelope.proofs.Lengths.{initial-length}
-use Rattle.nas_5gs.specs.declared.Direction.TheVariants.{Uplink}
+use Rattle.nas_core.specs.declared.Direction.TheVariants.{Uplink}
 use Rattle.nas_5gs.specs.Places.{bearer_no, place_of, next_at}
 use Rattle.nas_5gs.specs.Leaves.{use_next}
 use Rattle.nas_5gs.specs.Initial.{sent_initial}

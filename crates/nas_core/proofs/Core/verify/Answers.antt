@@ -14,9 +14,9 @@ returns-then-take c =
 pub returns-clause-opening : goal.returns-clause-opening
 unfolding verify_of opening
 returns-clause-opening c = elim c.match-late.branch [
-      | in-Some+else-take w ↦ simp (c.verify_forward.ensures.opening, sym c.late.ensures ∙ w.in-Some.is, sym w.take.ensures.fits ∙ w.if-take.false)
-      | in_default w ↦ simp (c.verify_forward.ensures.opening, sym c.late.ensures ∙ w.in_default.is)
-    ]
+  | in-Some+else-take w ↦ simp (c.verify_forward.ensures.opening, sym c.late.ensures ∙ w.in-Some.is, sym w.take.ensures.fits ∙ w.if-take.false)
+  | in_default w ↦ simp (c.verify_forward.ensures.opening, sym c.late.ensures ∙ w.in_default.is)
+]
 
 pub returns-clause-read : goal.returns-clause-read
 returns-clause-read c =

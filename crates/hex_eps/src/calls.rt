@@ -4,25 +4,17 @@ ghost use Rattle.nas_eps.specs.Leaves.{leaves};
 ghost use Rattle.nas_eps.specs.Changes.{new_of, restore_of, reselect_of, window_of};
 ghost use Rattle.nas_eps.specs.Seal.{seal_of, service_request_of};
 ghost use Rattle.nas_eps.specs.Open.{open_of};
+ghost use Rattle.hex_perform.specs.Perform.{direction_of};
 ghost use Rattle.hex_eps.specs.Answers.{change_answer, use_answer, open_answer, writing};
-ghost use Rattle.hex_eps.specs.Perform.{direction_of, raw_context, call_of};
+ghost use Rattle.hex_eps.specs.Perform.{raw_context, call_of};
 
 use crate::Answer;
 use aes::Key;
 use count::Record;
 use hex_eps_parse::{Call, Line};
+use hex_perform::direction_of;
 use nas_core::{Core, Done};
-use nas_eps::{Context, Direction};
-
-#[tactic(auto, unfolding(crate::specs::Perform::direction_of))]
-fn direction_of(number: u8) -> Direction
-    ensures { result ≡ direction_of number }
-{
-    match number {
-        0 => Direction::Uplink,
-        _ => Direction::Downlink,
-    }
-}
+use nas_eps::Context;
 
 // What a call hands back, its answer as that value.
 fn told<A: Into<Answer>>(done: Done<A, Context>) -> Done<Answer, Context>
@@ -40,14 +32,26 @@ fn create(integrity: u8, ciphering: u8, ik: [u8; 16], ck: [u8; 16]) -> Done<Answ
     told(Context::new(integrity, ciphering, ik, ck))
 }
 
-fn restore(integrity: u8, ciphering: u8, ik: [u8; 16], ck: [u8; 16], next: [u32; 2]) -> Done<Answer, Context>
+fn restore(
+    integrity: u8,
+    ciphering: u8,
+    ik: [u8; 16],
+    ck: [u8; 16],
+    next: [u32; 2],
+) -> Done<Answer, Context>
     ensures { leaves result.answer result.context [] ≡ writing change_answer (restore_of integrity ciphering ik ck (get_or next 0 0) (get_or next 1 0)) }
 {
     let [up, down] = next;
     told(Context::restore(integrity, ciphering, ik, ck, up, down))
 }
 
-fn reselect(context: Context, integrity: u8, ciphering: u8, ik: [u8; 16], ck: [u8; 16]) -> Done<Answer, Context>
+fn reselect(
+    context: Context,
+    integrity: u8,
+    ciphering: u8,
+    ik: [u8; 16],
+    ck: [u8; 16],
+) -> Done<Answer, Context>
     ensures { leaves result.answer result.context [] ≡ writing change_answer (reselect_of context integrity ciphering ik ck) }
 {
     told(context.reselect(integrity, ciphering, ik, ck))
@@ -59,7 +63,13 @@ fn window(context: Context, size: u8) -> Done<Answer, Context>
     told(context.set_window(size))
 }
 
-fn seal(context: Context, header: u8, direction: u8, inner: &[u8], out: &mut [u8]) -> Done<Answer, Context>
+fn seal(
+    context: Context,
+    header: u8,
+    direction: u8,
+    inner: &[u8],
+    out: &mut [u8],
+) -> Done<Answer, Context>
     ensures { leaves result.answer result.context out.new ≡ writing use_answer (seal_of context header (direction_of direction) inner.now out.old) }
 {
     let d = direction_of(direction);
@@ -98,13 +108,18 @@ fn raw(
         ciphering_key: Key::of(ciphering_key),
         size,
     };
-    let record = |p: usize| Record {
-        next: next[p],
-        bits: bits[p],
-    };
     Context {
         core,
-        records: [record(0), record(1)],
+        records: [
+            Record {
+                next: next[0],
+                bits: bits[0],
+            },
+            Record {
+                next: next[1],
+                bits: bits[1],
+            },
+        ],
     }
 }
 

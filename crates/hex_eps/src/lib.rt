@@ -74,11 +74,13 @@ impl From<Result<Opened, Refusal>> for Answer {
                 wrote: message.wrote,
                 header: message.header_type,
             },
-            Ok(Opened::ServiceRequest {
-                count,
-                distance,
-                identifier,
-            }) => Answer::Request {
+            Ok(
+                Opened::ServiceRequest {
+                    count,
+                    distance,
+                    identifier,
+                },
+            ) => Answer::Request {
                 count,
                 distance,
                 identifier,

@@ -12,22 +12,12 @@ ghost use Rattle.handover.specs.Across.{across_of};
 ghost use Rattle.hex_perform.specs.Answers.{change_answer, use_answer, octet_answer, open_answer, eps_answer, verify_answer, writing, writing_two, writing_across};
 ghost use Rattle.hex_perform.specs.Perform.{direction_of, connection_of, raw_context, call_of};
 
-use crate::Answer;
+use crate::{Answer, direction_of};
 use aes::Key;
 use count::Record;
 use hex_parse::{Call, Line};
-use nas_5gs::{Connection, Context, Direction};
+use nas_5gs::{Connection, Context};
 use nas_core::{Core, Done};
-
-#[tactic(auto, unfolding(crate::specs::Perform::direction_of))]
-fn direction_of(number: u8) -> Direction
-    ensures { result ≡ direction_of number }
-{
-    match number {
-        0 => Direction::Uplink,
-        _ => Direction::Downlink,
-    }
-}
 
 #[tactic(auto, unfolding(crate::specs::Perform::connection_of))]
 fn connection_of(number: u8) -> Connection
@@ -244,13 +234,26 @@ fn raw(
         ciphering_key: Key::of(ciphering_key),
         size,
     };
-    let record = |p: usize| Record {
-        next: next[p],
-        bits: bits[p],
-    };
     Context {
         core,
-        records: [record(0), record(1), record(2), record(3)],
+        records: [
+            Record {
+                next: next[0],
+                bits: bits[0],
+            },
+            Record {
+                next: next[1],
+                bits: bits[1],
+            },
+            Record {
+                next: next[2],
+                bits: bits[2],
+            },
+            Record {
+                next: next[3],
+                bits: bits[3],
+            },
+        ],
     }
 }
 

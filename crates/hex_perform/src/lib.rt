@@ -11,14 +11,14 @@ ghost use Rattle.nas_5gs.specs.VerifyAnswer.{told_verify};
 ghost use Rattle.nas_5gs.specs.Leaves.{leaves_two};
 ghost use Rattle.nas_5gs.specs.Places.{bearer_no};
 ghost use Rattle.hex_perform.specs.Answers.{change_answer, use_answer, octet_answer, open_answer, across_answer, eps_answer, verify_answer};
-ghost use Rattle.hex_perform.specs.Perform.{perform_of};
+ghost use Rattle.hex_perform.specs.Perform.{direction_of, perform_of};
 
 mod calls;
 
 use handover::AcrossAnswer;
 use hex_parse::Line;
 use nas_5gs::{Connection, Context, EpsReceived, MadeOctet, OpenError, Opened, Reached};
-use nas_core::{Done, Received, Spent};
+use nas_core::{Direction, Done, Received, Spent};
 use refusals::Refusal;
 
 // What is printed of a call, but for the octets that it wrote. `Content` is refusal 8 with the number that it carries.
@@ -207,6 +207,17 @@ impl From<Result<Reached, Refusal>> for Answer {
             },
             Err(refusal) => Answer::Refused(refusal.number()),
         }
+    }
+}
+
+// The direction that a line names.
+#[tactic(auto, unfolding(crate::specs::Perform::direction_of))]
+pub fn direction_of(number: u8) -> Direction
+    ensures { result ≡ direction_of number }
+{
+    match number {
+        0 => Direction::Uplink,
+        _ => Direction::Downlink,
     }
 }
 

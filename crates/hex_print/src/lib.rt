@@ -298,8 +298,9 @@ pub fn second_text(answer: Answer, written: &[u8], out: &mut [u8], at: usize) ->
     ensures { Puts out.old at (second_text answer written.now) out.new result × (result ≤ at + 19 + length written.now * 2) }
 {
     match answer {
-        Answer::Opened { second, .. } | Answer::OpenedOn { second, .. } =>
-            put_second(second, written, out, at),
+        Answer::Opened { second, .. } | Answer::OpenedOn { second, .. } => put_second(
+            second, written, out, at,
+        ),
         Answer::Content { .. } | Answer::ContentOn { .. } => put_second(0, written, out, at),
         _ => at,
     }

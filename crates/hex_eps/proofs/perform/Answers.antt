@@ -1,12 +1,10 @@
-use Rattle.hex_eps.specs.Perform.{perform_of, held_of}
+use Rattle.hex_eps.proofs.Laws as laws
 use Rattle.hex_eps.proofs.perform.Goals as goal
 
 pub returns-in-None : goal.returns-in-None
-unfolding perform_of
 returns-in-None c =
-    rw c.in-None.is
+    laws.held c.args.line _ _ _ _ _ c.in-None.is (rw c.number.ensures)
 
 pub returns-in-Some : goal.returns-in-Some
-unfolding perform_of
 returns-in-Some c =
-    rw c.in-Some.is c.call.ensures
+    laws.held c.args.line _ _ _ _ _ c.in-Some.is c.call.ensures

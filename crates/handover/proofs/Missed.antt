@@ -104,13 +104,13 @@ module _ (x : Context) (d : Direction) (k : Connection) (m out second : List ℕ
   unfolding across_of
   under-null w = rw (sym e) (simp w)
 
-  pub this-one : is_missed (number_of a) ≡ false → leaves_across k a y o o2 ≡ across_of x d k m out second
+  pub this-one : wraps x.core ≡ false → is_missed (number_of a) ≡ false → leaves_across k a y o o2 ≡ across_of x d k m out second
   unfolding across_of
-  this-one h = rw (sym e) (elim (wraps x.core) [ true ↦ refl | false ↦ simp h ])
+  this-one w h = rw (sym e) (simp (w, h))
 
-  pub not-this : (n : ℕ) → n ≡ number_of a → is_missed (number_of a) ≡ true → wraps x.core ≡ false
+  pub not-this : wraps x.core ≡ false → (n : ℕ) → n ≡ number_of a → is_missed (number_of a) ≡ true
       → (r : LeavesAcross) → r ≡ elsewhere_of x d k n m o o2 → r ≡ across_of x d k m out second
   unfolding across_of
-  not-this n number h w r f =
+  not-this w n number h r f =
       let q = outputs x d k m out second a y o o2 e h in
       rw (sym e) (simp (w, h) (f ∙ rw (number, q.first, q.beside') refl))

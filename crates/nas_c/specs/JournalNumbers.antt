@@ -1,8 +1,6 @@
 -- One record of a journal for C: the octets written, or the refusal.
 use Rattle.std.specs.Prelude.{ℕ, List}
-use Rattle.journal.specs.declared.Written.{Written}
-use Rattle.journal.specs.declared.Written.TheVariants.{Refused, Octets}
-use Rattle.journal.specs.Write.{Writes, writes, write_of}
+use Rattle.journal.specs.Write.{Written, Refused, Octets, Writes, writes, write_of}
 use Rattle.nas_core.specs.Leaves.{refusal}
 use Rattle.nas_c.specs.declared.Shown.{Shown}
 use Rattle.nas_c.specs.Numbers.{shown}

@@ -1,11 +1,14 @@
 -- The calls for C over a 5GS context: directions and connections as numbers, every answer as one struct of its values.
-use Rattle.std.specs.Prelude.{ℕ, Bool, cond, ◌||◌, List, eqb, ltb}
+use Rattle.std.specs.Prelude.{ℕ, Bool, cond, ◌||◌, List, eqb, ltb, Result, Ok, Err}
+use Rattle.refusals.specs.Numbers.{number_of}
 use Rattle.nas_core.specs.Leaves.{Leaves}
 use Rattle.nas_5gs.specs.declared.Context.{Context}
 use Rattle.nas_core.specs.declared.Direction.{Direction}
 use Rattle.nas_core.specs.declared.Direction.TheVariants.{Uplink, Downlink}
 use Rattle.nas_5gs.specs.declared.Connection.{Connection}
 use Rattle.nas_5gs.specs.declared.Connection.TheVariants.{ThreeGpp, Non3Gpp}
+use Rattle.nas_5gs.specs.declared.OpenError.{OpenError}
+use Rattle.nas_5gs.specs.declared.OpenError.TheVariants.{Refused, Content}
 use Rattle.nas_5gs.specs.Leaves.{leaves, LeavesTwo, leaves_two, Values, refusal, change_values, use_values, open_values, eps_open_values, octet_values, verify_values}
 use Rattle.nas_5gs.specs.Places.{bearer_no, place_of, next_at}
 use Rattle.handover.specs.Across.{LeavesAcross, leaves_across, across_of}
@@ -61,6 +64,26 @@ shown_on k v = shown_by v.carried v.octet (cond v.uses (bearer_no k) 0) v
 -- a number that is no direction or connection: 19, before all else
 abbrev pub no_such_way : Shown
 no_such_way = shown (refusal 19)
+
+-- a value shown as its type says, or an error as its type does
+abbrev pub shown_result : {T E : Type 0} → (T → Shown) → (E → Shown) → Result T E → Shown
+shown_result value error (Ok x) = value x
+shown_result value error (Err e) = error e
+
+-- refusal 8 hands over a message, and carries a number
+abbrev pub shown_error : {M : Type 0} → (M → Shown) → OpenError M → Shown
+shown_error message (Refused r) = shown (refusal (number_of r))
+shown_error message (Content m r) = record {
+  number = 8;
+  carried = number_of r;
+  header_type = (message m).header_type;
+  octet = (message m).octet;
+  connection = (message m).connection;
+  count = (message m).count;
+  distance = (message m).distance;
+  wrote = (message m).wrote;
+  second = (message m).second;
+}
 
 -- what a call leaves, its answer shown
 abbrev pub numbers : {X A : Type 0} → (Values → Shown) → (A → Values) → Leaves X A → Leaves X Shown

@@ -1,156 +1,148 @@
 // Answers as their values, with the context that is handed back.
-ghost use Rattle.std.specs.Prelude.{◌≡◌};
-ghost use Rattle.nas_5gs.specs.Leaves.{change_values, use_values, open_values, eps_open_values, octet_values, verify_values};
+ghost use Rattle.std.specs.Prelude.{◌≡◌, Ok};
+ghost use Rattle.refusals.specs.Numbers.{number_of};
+ghost use Rattle.nas_core.specs.ChangeAnswer.{told_change};
+ghost use Rattle.nas_core.specs.UseAnswer.{told_use};
+ghost use Rattle.nas_5gs.specs.OpenAnswer.{told_open};
+ghost use Rattle.nas_5gs.specs.EpsOpenAnswer.{told_eps_open};
+ghost use Rattle.nas_5gs.specs.OctetAnswer.{told_octet};
+ghost use Rattle.nas_5gs.specs.VerifyAnswer.{told_verify};
+ghost use Rattle.nas_5gs.specs.Leaves.{refusal, change_values, use_values, open_values, eps_open_values, octet_values, verify_values};
 ghost use Rattle.nas_5gs.specs.Places.{bearer_no};
-ghost use Rattle.nas_c.specs.Numbers.{shown, shown_on, no_such_way};
+ghost use Rattle.nas_c.specs.declared.Shown.{Shown};
+ghost use Rattle.nas_c.specs.Numbers.{shown, shown_on, shown_result, shown_error, no_such_way};
 
-use crate::{Left, Shown};
-use handover::AcrossDone;
-use nas_5gs::{
-    ChangeAnswer, ChangeDone, Connection, Context, EpsOpenAnswer, EpsOpenDone, OctetAnswer,
-    OctetDone, OpenAnswer, OpenDone, UseAnswer, UseDone, VerifyAnswer, VerifyDone,
-};
+use crate::{EpsLeft, Left, Shown};
+use handover::AcrossAnswer;
+use nas_5gs::{Connection, EpsReceived, MadeOctet, OpenError, Opened, Reached};
+use nas_core::{Done, Received, Spent};
+use refusals::Refusal;
 
-// A number alone; 0: a success that has no values.
-pub fn refusal(number: u8) -> Shown
-    ensures { result ≡ record { number = number; carried = 0; header_type = 0; octet = 0; connection = 0; count = 0; distance = 0; wrote = 0; second = 0 } }
-{
-    Shown {
-        number,
-        carried: 0,
-        header_type: 0,
-        octet: 0,
-        connection: 0,
-        count: 0,
-        distance: 0,
-        wrote: 0,
-        second: 0,
+// What an answer, or a part of one, is shown as.
+pub trait Shows {
+    ghost shows: { Self → Shown };
+
+    fn show(self) -> Shown
+        ensures { result ≡ shows self };
+}
+
+impl<T: Shows, E: Shows> Shows for Result<T, E> {
+    ghost shows = { shown_result T.shows E.shows };
+
+    fn show(self) -> Shown {
+        match self {
+            Ok(x) => x.show(),
+            Err(e) => e.show(),
+        }
     }
 }
 
-pub fn success(header_type: u8, count: u32, distance: u32, wrote: usize, second: usize) -> Shown
-    ensures { result ≡ record { number = 0; carried = 0; header_type = header_type; octet = 0; connection = 0; count = count; distance = distance; wrote = wrote; second = second } }
-{
-    Shown {
-        number: 0,
-        carried: 0,
-        header_type,
-        octet: 0,
-        connection: 0,
-        count,
-        distance,
-        wrote,
-        second,
+impl Shows for Refusal {
+    ghost shows = { λ r. shown (refusal (number_of r)) };
+
+    fn show(self) -> Shown {
+        Shown {
+            number: self.number(),
+            ..Shown::default()
+        }
     }
 }
 
-// Refusal 8 and the number that it carries.
-fn content(carried: u8, header_type: u8, count: u32, distance: u32, wrote: usize) -> Shown
-    ensures { result ≡ record { number = 8; carried = carried; header_type = header_type; octet = 0; connection = 0; count = count; distance = distance; wrote = wrote; second = 0 } }
-{
-    Shown {
-        number: 8,
-        carried,
-        header_type,
-        octet: 0,
-        connection: 0,
-        count,
-        distance,
-        wrote,
-        second: 0,
+// Refusal 8 hands over a message, and carries a number.
+impl<M: Shows> Shows for OpenError<M> {
+    ghost shows = { shown_error M.shows };
+
+    fn show(self) -> Shown {
+        match self {
+            OpenError::Refused(refusal) => refusal.show(),
+            OpenError::Content(message, refusal) => Shown {
+                number: 8,
+                carried: refusal.number(),
+                ..message.show()
+            },
+        }
     }
 }
 
-// A success that answers an octet.
-pub fn with_octet(header_type: u8, octet: u8, count: u32, distance: u32) -> Shown
-    ensures { result ≡ record { number = 0; carried = 0; header_type = header_type; octet = octet; connection = 0; count = count; distance = distance; wrote = 0; second = 0 } }
-{
-    Shown {
-        number: 0,
-        carried: 0,
-        header_type,
-        octet,
-        connection: 0,
-        count,
-        distance,
-        wrote: 0,
-        second: 0,
+impl Shows for () {
+    ghost shows = { λ u. shown (change_values (told_change (Ok u))) };
+
+    fn show(self) -> Shown {
+        Shown::default()
     }
 }
 
-pub fn no_such_way(context: Context) -> Left
-    ensures { result ≡ record { answer = no_such_way; context = context } }
-{
-    Left {
-        answer: refusal(crate::NO_SUCH_WAY),
-        context,
+impl Shows for Spent {
+    ghost shows = { λ s. shown (use_values (told_use (Ok s))) };
+
+    fn show(self) -> Shown {
+        Shown {
+            count: self.count,
+            wrote: self.wrote,
+            ..Shown::default()
+        }
     }
 }
 
-pub fn show_change(done: ChangeDone) -> Left
-    ensures { result ≡ record { answer = shown (change_values done.answer); context = done.context } }
-{
-    let context = done.context;
-    let answer = done.answer;
-    match answer {
-        ChangeAnswer::Refused(n) => Left {
-            answer: refusal(n),
-            context,
-        },
-        ChangeAnswer::Done => Left {
-            answer: refusal(0),
-            context,
-        },
+impl Shows for Received {
+    ghost shows = { λ m. shown (open_values (told_open (Ok (record { message = m; second = 0 })))) };
+
+    fn show(self) -> Shown {
+        Shown {
+            header_type: self.header_type,
+            count: self.count,
+            distance: self.distance,
+            wrote: self.wrote,
+            ..Shown::default()
+        }
     }
 }
 
-pub fn show_use(done: UseDone) -> Left
-    ensures { result ≡ record { answer = shown (use_values done.answer); context = done.context } }
-{
-    let context = done.context;
-    let answer = done.answer;
-    match answer {
-        UseAnswer::Refused(n) => Left {
-            answer: refusal(n),
-            context,
-        },
-        UseAnswer::Used { count, wrote } => Left {
-            answer: success(0, count, 0, wrote, 0),
-            context,
-        },
+impl Shows for Opened {
+    ghost shows = { λ o. shown (open_values (told_open (Ok o))) };
+
+    fn show(self) -> Shown {
+        Shown {
+            second: self.second,
+            ..self.message.show()
+        }
     }
 }
 
-pub fn show_open(done: OpenDone) -> Left
-    ensures { result ≡ record { answer = shown (open_values done.answer); context = done.context } }
-{
-    let context = done.context;
-    let answer = done.answer;
-    match answer {
-        OpenAnswer::Refused(n) => Left {
-            answer: refusal(n),
-            context,
-        },
-        OpenAnswer::Accepted {
-            count,
-            distance,
-            wrote,
-            header_type,
-            second,
-        } => Left {
-            answer: success(header_type, count, distance, wrote, second),
-            context,
-        },
-        OpenAnswer::Content {
-            count,
-            distance,
-            wrote,
-            header_type,
-            number,
-        } => Left {
-            answer: content(number, header_type, count, distance, wrote),
-            context,
-        },
+impl Shows for EpsReceived {
+    ghost shows = { λ m. shown (eps_open_values (told_eps_open (Ok m))) };
+
+    fn show(self) -> Shown {
+        Shown {
+            count: self.count,
+            distance: self.distance,
+            wrote: self.wrote,
+            ..Shown::default()
+        }
+    }
+}
+
+impl Shows for MadeOctet {
+    ghost shows = { λ m. shown (octet_values (told_octet (Ok m))) };
+
+    fn show(self) -> Shown {
+        Shown {
+            octet: self.octet,
+            count: self.count,
+            ..Shown::default()
+        }
+    }
+}
+
+impl Shows for Reached {
+    ghost shows = { λ r. shown (verify_values (told_verify (Ok r))) };
+
+    fn show(self) -> Shown {
+        Shown {
+            count: self.count,
+            distance: self.distance,
+            ..Shown::default()
+        }
     }
 }
 
@@ -164,110 +156,73 @@ fn digit_of(connection: Connection) -> u8
 }
 
 // As an open, with the connection that the message was taken on: a refusal but 8 has none.
-pub fn show_across(done: AcrossDone) -> Left
-    ensures { result ≡ record { answer = shown_on done.answer.connection (open_values done.answer.answer); context = done.context } }
-{
-    let context = done.context;
-    let taken = done.answer;
-    let on = taken.connection;
-    let connection = digit_of(on);
-    let answer = taken.answer;
-    match answer {
-        OpenAnswer::Refused(n) => Left {
-            answer: refusal(n),
-            context,
-        },
-        OpenAnswer::Accepted {
-            count,
-            distance,
-            wrote,
-            header_type,
-            second,
-        } => {
-            let mut shown = success(header_type, count, distance, wrote, second);
-            shown.connection = connection;
-            Left {
-                answer: shown,
-                context,
-            }
-        }
-        OpenAnswer::Content {
-            count,
-            distance,
-            wrote,
-            header_type,
-            number,
-        } => {
-            let mut shown = content(number, header_type, count, distance, wrote);
-            shown.connection = connection;
-            Left {
-                answer: shown,
-                context,
-            }
+impl Shows for AcrossAnswer {
+    ghost shows = { λ a. shown_on a.connection (open_values (told_open a.answer)) };
+
+    fn show(self) -> Shown {
+        let shown = self.answer.show();
+        match self.answer {
+            Err(OpenError::Refused(_)) => shown,
+            _ => Shown {
+                connection: digit_of(self.connection),
+                ..shown
+            },
         }
     }
 }
 
-pub fn show_eps_open(done: EpsOpenDone) -> Left
-    ensures { result ≡ record { answer = shown (eps_open_values done.answer); context = done.context } }
-{
-    let context = done.context;
-    let answer = done.answer;
-    match answer {
-        EpsOpenAnswer::Refused(n) => Left {
-            answer: refusal(n),
-            context,
-        },
-        EpsOpenAnswer::Accepted {
-            count,
-            distance,
-            wrote,
-        } => Left {
-            answer: success(0, count, distance, wrote, 0),
-            context,
-        },
-        EpsOpenAnswer::Content {
-            count,
-            distance,
-            wrote,
-            number,
-        } => Left {
-            answer: content(number, 0, count, distance, wrote),
-            context,
-        },
+// A number that is no direction or no connection is refused so, before all else; 18 is the last refusal of the calls below.
+#[derive(Clone, Copy)]
+pub struct NoSuchWay;
+
+impl Shows for NoSuchWay {
+    ghost shows = { λ _. no_such_way };
+
+    fn show(self) -> Shown {
+        Shown {
+            number: 19,
+            ..Shown::default()
+        }
     }
 }
 
-pub fn show_octet(done: OctetDone) -> Left
-    ensures { result ≡ record { answer = shown (octet_values done.answer); context = done.context } }
+pub fn no_such_way<X>(context: X) -> Done<NoSuchWay, X>
+    ensures { result.context ≡ context }
 {
-    let context = done.context;
-    let answer = done.answer;
-    match answer {
-        OctetAnswer::Refused(n) => Left {
-            answer: refusal(n),
-            context,
-        },
-        OctetAnswer::Made { count, octet } => Left {
-            answer: with_octet(0, octet, count, 0),
-            context,
-        },
+    Done {
+        answer: NoSuchWay,
+        context,
     }
 }
 
-pub fn show_verify(done: VerifyDone) -> Left
-    ensures { result ≡ record { answer = shown (verify_values done.answer); context = done.context } }
-{
-    let context = done.context;
-    let answer = done.answer;
-    match answer {
-        VerifyAnswer::Refused(n) => Left {
-            answer: refusal(n),
-            context,
-        },
-        VerifyAnswer::Verified { count, distance } => Left {
-            answer: success(0, count, distance, 0, 0),
-            context,
-        },
+impl<A: Shows> From<Done<A, nas_5gs::Context>> for Left {
+    ghost from_gives = { λ done left. left ≡ record { answer = A.shows done.answer; context = done.context } };
+
+    fn from(done: Done<A, nas_5gs::Context>) -> Left {
+        Left {
+            answer: done.answer.show(),
+            context: done.context,
+        }
+    }
+}
+
+impl<A: Shows> From<Done<A, nas_eps::Context>> for EpsLeft {
+    ghost from_gives = { λ done left. left ≡ record { answer = A.shows done.answer; context = done.context } };
+
+    fn from(done: Done<A, nas_eps::Context>) -> EpsLeft {
+        EpsLeft {
+            answer: done.answer.show(),
+            context: done.context,
+        }
+    }
+}
+
+impl Left {
+    // The answer alone, with the context kept where it lay.
+    pub(crate) fn keep(self, context: &mut nas_5gs::Context) -> Shown
+        ensures { (result ≡ self.answer) × (context.new ≡ self.context) }
+    {
+        *context = self.context;
+        self.answer
     }
 }

@@ -3,7 +3,7 @@ ghost use Rattle.std.specs.Prelude.{◌≡◌, [], ◌∷◌};
 ghost use Rattle.nas_5gs.specs.Leaves.{leaves};
 ghost use Rattle.nas_c.specs.Numbers.{new_numbers, restore_numbers, reselect_numbers, window_numbers, next_count_number};
 
-use crate::{Left, Shown, answers};
+use crate::{Left, Shown};
 use nas_5gs::Context;
 
 #[unsafe(no_mangle)]
@@ -15,7 +15,7 @@ pub extern "C" fn saihdelu_new(
 ) -> Left
     ensures { leaves result.answer result.context [] ≡ new_numbers integrity ciphering integrity_key.now ciphering_key.now }
 {
-    answers::show_change(Context::new(integrity, ciphering, *integrity_key, *ciphering_key))
+    Left::from(Context::new(integrity, ciphering, *integrity_key, *ciphering_key))
 }
 
 // The next COUNTs: uplink and downlink of 3GPP access, then of non-3GPP access.
@@ -38,13 +38,7 @@ pub extern "C" fn saihdelu_restore(
         next_uplink_non_3gpp,
         next_downlink_non_3gpp,
     ];
-    answers::show_change(Context::restore(
-        integrity,
-        ciphering,
-        *integrity_key,
-        *ciphering_key,
-        next,
-    ))
+    Left::from(Context::restore(integrity, ciphering, *integrity_key, *ciphering_key, next))
 }
 
 #[unsafe(no_mangle)]
@@ -57,36 +51,30 @@ pub extern "C" fn saihdelu_reselect(
 ) -> Left
     ensures { leaves result.answer result.context [] ≡ reselect_numbers context integrity ciphering integrity_key.now ciphering_key.now }
 {
-    answers::show_change(context.reselect(integrity, ciphering, *integrity_key, *ciphering_key))
+    Left::from(context.reselect(integrity, ciphering, *integrity_key, *ciphering_key))
 }
 
 #[unsafe(no_mangle)]
 pub extern "C" fn saihdelu_set_window(context: Context, size: u8) -> Left
     ensures { leaves result.answer result.context [] ≡ window_numbers context size }
 {
-    answers::show_change(context.set_window(size))
+    Left::from(context.set_window(size))
 }
 
 #[unsafe(no_mangle)]
 pub extern "C" fn saihdelu_set_window_in_place(context: &mut Context, size: u8) -> Shown
     ensures { leaves result context.new [] ≡ window_numbers context.old size }
 {
-    let before = *context;
-    let done = saihdelu_set_window(before, size);
-    let after = done.context;
-    *context = after;
-    done.answer
+    saihdelu_set_window(*context, size).keep(context)
 }
 
 #[unsafe(no_mangle)]
 pub extern "C" fn saihdelu_next_count(context: Context, direction: u8, connection: u8) -> u32
     ensures { result ≡ next_count_number context direction connection }
 {
-    if crate::no_way(direction, connection) {
+    let Some((d, k)) = crate::way_of(direction, connection) else {
         return crate::NO_COUNT;
-    }
-    let d = crate::direction_of(direction);
-    let k = crate::connection_of(connection);
+    };
     context.next_count(d, k)
 }
 

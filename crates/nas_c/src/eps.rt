@@ -1,98 +1,48 @@
 // The calls over an EPS context.
-ghost use Rattle.std.specs.Prelude.{◌≡◌, []};
-ghost use Rattle.nas_eps.specs.Leaves.{leaves, change_values, use_values, open_values};
-ghost use Rattle.nas_c.specs.Numbers.{shown, no_such_way};
+ghost use Rattle.std.specs.Prelude.{◌≡◌, [], Some, None, cond, Ok};
+ghost use Rattle.nas_eps.specs.OpenAnswer.{told_open};
+ghost use Rattle.nas_eps.specs.Leaves.{leaves, open_values};
+ghost use Rattle.nas_c.specs.Numbers.{no_direction};
 ghost use Rattle.nas_c.specs.EpsNumbers.{direction_of, shown_open, new_numbers, restore_numbers, reselect_numbers, window_numbers, next_count_number, seal_numbers, request_numbers, open_numbers};
 
-use crate::{EpsLeft, answers};
-use nas_eps::{
-    ChangeAnswer, ChangeDone, Context, Direction, OpenAnswer, OpenDone, UseAnswer, UseDone,
-};
+use crate::answers::{Shows, no_such_way};
+use crate::{EpsLeft, Shown};
+use nas_eps::{Context, Direction, Opened};
 
 // The header type that stands for a SERVICE REQUEST.
 const REQUEST: u8 = 12;
 
-fn direction_of(n: u8) -> Direction
-    ensures { result ≡ direction_of n }
+// kept: as for a 5GS context (d: each context has its own enum, and one function for both would have to be given its variants).
+#[tactic(auto, unfolding(crate::specs::Numbers::no_direction, crate::specs::EpsNumbers::direction_of))]
+fn direction_of(n: u8) -> Option<Direction>
+    ensures { result ≡ cond (no_direction n) None (Some (direction_of n)) }
 {
-    if n == 0 {
-        Direction::Uplink
-    } else {
-        Direction::Downlink
-    }
-}
-
-fn no_such_way(context: Context) -> EpsLeft
-    ensures { result ≡ record { answer = no_such_way; context = context } }
-{
-    EpsLeft {
-        answer: answers::refusal(crate::NO_SUCH_WAY),
-        context,
-    }
-}
-
-fn show_change(done: ChangeDone) -> EpsLeft
-    ensures { result ≡ record { answer = shown (change_values done.answer); context = done.context } }
-{
-    let context = done.context;
-    let answer = done.answer;
-    match answer {
-        ChangeAnswer::Refused(n) => EpsLeft {
-            answer: answers::refusal(n),
-            context,
-        },
-        ChangeAnswer::Done => EpsLeft {
-            answer: answers::refusal(0),
-            context,
-        },
-    }
-}
-
-fn show_use(done: UseDone) -> EpsLeft
-    ensures { result ≡ record { answer = shown (use_values done.answer); context = done.context } }
-{
-    let context = done.context;
-    let answer = done.answer;
-    match answer {
-        UseAnswer::Refused(n) => EpsLeft {
-            answer: answers::refusal(n),
-            context,
-        },
-        UseAnswer::Used { count, wrote } => EpsLeft {
-            answer: answers::success(0, count, 0, wrote, 0),
-            context,
-        },
+    match n {
+        0 => Some(Direction::Uplink),
+        1 => Some(Direction::Downlink),
+        _ => None,
     }
 }
 
 // A SERVICE REQUEST is shown with header type 12, and its identifier as the octet.
-fn show_open(done: OpenDone) -> EpsLeft
-    ensures { result ≡ record { answer = shown_open (open_values done.answer); context = done.context } }
-{
-    let context = done.context;
-    let answer = done.answer;
-    match answer {
-        OpenAnswer::Refused(n) => EpsLeft {
-            answer: answers::refusal(n),
-            context,
-        },
-        OpenAnswer::Accepted {
-            count,
-            distance,
-            wrote,
-            header_type,
-        } => EpsLeft {
-            answer: answers::success(header_type, count, distance, wrote, 0),
-            context,
-        },
-        OpenAnswer::ServiceRequest {
-            count,
-            distance,
-            identifier,
-        } => EpsLeft {
-            answer: answers::with_octet(REQUEST, identifier, count, distance),
-            context,
-        },
+impl Shows for Opened {
+    ghost shows = { λ o. shown_open (open_values (told_open (Ok o))) };
+
+    fn show(self) -> Shown {
+        match self {
+            Opened::Message(message) => message.show(),
+            Opened::ServiceRequest {
+                count,
+                distance,
+                identifier,
+            } => Shown {
+                header_type: REQUEST,
+                octet: identifier,
+                count,
+                distance,
+                ..Shown::default()
+            },
+        }
     }
 }
 
@@ -105,7 +55,7 @@ pub extern "C" fn saihdelu_eps_new(
 ) -> EpsLeft
     ensures { leaves result.answer result.context [] ≡ new_numbers integrity ciphering integrity_key.now ciphering_key.now }
 {
-    show_change(Context::new(integrity, ciphering, *integrity_key, *ciphering_key))
+    EpsLeft::from(Context::new(integrity, ciphering, *integrity_key, *ciphering_key))
 }
 
 #[unsafe(no_mangle)]
@@ -119,7 +69,7 @@ pub extern "C" fn saihdelu_eps_restore(
 ) -> EpsLeft
     ensures { leaves result.answer result.context [] ≡ restore_numbers integrity ciphering integrity_key.now ciphering_key.now next_uplink next_downlink }
 {
-    show_change(Context::restore(
+    EpsLeft::from(Context::restore(
         integrity,
         ciphering,
         *integrity_key,
@@ -139,14 +89,14 @@ pub extern "C" fn saihdelu_eps_reselect(
 ) -> EpsLeft
     ensures { leaves result.answer result.context [] ≡ reselect_numbers context integrity ciphering integrity_key.now ciphering_key.now }
 {
-    show_change(context.reselect(integrity, ciphering, *integrity_key, *ciphering_key))
+    EpsLeft::from(context.reselect(integrity, ciphering, *integrity_key, *ciphering_key))
 }
 
 #[unsafe(no_mangle)]
 pub extern "C" fn saihdelu_eps_set_window(context: Context, size: u8) -> EpsLeft
     ensures { leaves result.answer result.context [] ≡ window_numbers context size }
 {
-    show_change(context.set_window(size))
+    EpsLeft::from(context.set_window(size))
 }
 
 #[unsafe(no_mangle)]
@@ -159,11 +109,10 @@ pub extern "C" fn saihdelu_eps_seal(
 ) -> EpsLeft
     ensures { leaves result.answer result.context out.new ≡ seal_numbers context header_type direction inner.now out.old }
 {
-    if crate::no_direction(direction) {
-        return no_such_way(context);
-    }
-    let d = direction_of(direction);
-    show_use(context.seal(header_type, d, inner, out))
+    let Some(d) = direction_of(direction) else {
+        return EpsLeft::from(no_such_way(context));
+    };
+    EpsLeft::from(context.seal(header_type, d, inner, out))
 }
 
 #[unsafe(no_mangle)]
@@ -174,7 +123,7 @@ pub extern "C" fn saihdelu_eps_service_request(
 ) -> EpsLeft
     ensures { leaves result.answer result.context out.new ≡ request_numbers context identifier out.old }
 {
-    show_use(context.service_request(identifier, out))
+    EpsLeft::from(context.service_request(identifier, out))
 }
 
 #[unsafe(no_mangle)]
@@ -186,21 +135,19 @@ pub extern "C" fn saihdelu_eps_open(
 ) -> EpsLeft
     ensures { leaves result.answer result.context out.new ≡ open_numbers context direction message.now out.old }
 {
-    if crate::no_direction(direction) {
-        return no_such_way(context);
-    }
-    let d = direction_of(direction);
-    show_open(context.open(d, message, out))
+    let Some(d) = direction_of(direction) else {
+        return EpsLeft::from(no_such_way(context));
+    };
+    EpsLeft::from(context.open(d, message, out))
 }
 
 #[unsafe(no_mangle)]
 pub extern "C" fn saihdelu_eps_next_count(context: Context, direction: u8) -> u32
     ensures { result ≡ next_count_number context direction }
 {
-    if crate::no_direction(direction) {
+    let Some(d) = direction_of(direction) else {
         return crate::NO_COUNT;
-    }
-    let d = direction_of(direction);
+    };
     context.next_count(d)
 }
 

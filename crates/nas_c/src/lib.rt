@@ -3,7 +3,7 @@
 // connection.
 #![tactic(auto)]
 
-ghost use Rattle.std.specs.Prelude.{◌≡◌};
+ghost use Rattle.std.specs.Prelude.{◌≡◌, Some, None, cond};
 ghost use Rattle.nas_c.specs.Numbers.{no_direction, no_connection, no_way, direction_of, connection_of};
 
 mod answers;
@@ -18,7 +18,7 @@ use nas_5gs::{Connection, Context, Direction};
 
 // An answer's values: `number` is 0 for a success, else the refusal; what an answer has no value for is 0.
 #[repr(C)]
-#[derive(Clone, Copy)]
+#[derive(Clone, Copy, Default)]
 pub struct Shown {
     pub number: u8,
     pub carried: u8,
@@ -31,6 +31,7 @@ pub struct Shown {
     pub second: usize,
 }
 
+// kept: `Left` and `EpsLeft` are one struct but for the context (a: no exported function may hand a generic struct to C).
 #[repr(C)]
 #[derive(Clone, Copy)]
 pub struct Left {
@@ -45,54 +46,36 @@ pub struct EpsLeft {
     pub context: nas_eps::Context,
 }
 
-// The refusal of a number that is no direction or no connection, before all else; 18 is the last refusal of the calls below.
-const NO_SUCH_WAY: u8 = 19;
-
 // Answered for the next COUNT of a direction or connection that is none: it is no next COUNT.
 const NO_COUNT: u32 = 4294967295;
 
-fn no_direction(direction: u8) -> bool
-    ensures { result ≡ no_direction direction }
+#[tactic(auto, unfolding(crate::specs::Numbers::no_direction, crate::specs::Numbers::direction_of))]
+fn direction_of(n: u8) -> Option<Direction>
+    ensures { result ≡ cond (no_direction n) None (Some (direction_of n)) }
 {
-    1 < direction
-}
-
-fn no_connection(connection: u8) -> bool
-    ensures { result ≡ no_connection connection }
-{
-    if connection < 1 {
-        return true;
-    }
-    2 < connection
-}
-
-fn no_way(direction: u8, connection: u8) -> bool
-    ensures { result ≡ no_way direction connection }
-{
-    if no_direction(direction) {
-        return true;
-    }
-    no_connection(connection)
-}
-
-fn direction_of(n: u8) -> Direction
-    ensures { result ≡ direction_of n }
-{
-    if n == 0 {
-        Direction::Uplink
-    } else {
-        Direction::Downlink
+    match n {
+        0 => Some(Direction::Uplink),
+        1 => Some(Direction::Downlink),
+        _ => None,
     }
 }
 
-fn connection_of(n: u8) -> Connection
-    ensures { result ≡ connection_of n }
+#[tactic(auto, unfolding(crate::specs::Numbers::no_connection, crate::specs::Numbers::connection_of))]
+fn connection_of(n: u8) -> Option<Connection>
+    ensures { result ≡ cond (no_connection n) None (Some (connection_of n)) }
 {
-    if n == 1 {
-        Connection::ThreeGpp
-    } else {
-        Connection::Non3Gpp
+    match n {
+        1 => Some(Connection::ThreeGpp),
+        2 => Some(Connection::Non3Gpp),
+        _ => None,
     }
+}
+
+#[tactic(auto, unfolding(crate::specs::Numbers::no_way))]
+fn way_of(direction: u8, connection: u8) -> Option<(Direction, Connection)>
+    ensures { result ≡ cond (no_way direction connection) None (Some (direction_of direction, connection_of connection)) }
+{
+    Some((direction_of(direction)?, connection_of(connection)?))
 }
 
 // The octets of a context as C lays it out, for a caller to compare with its own declaration: no proof knows them.

@@ -3,7 +3,8 @@ ghost use Rattle.std.specs.Prelude.{◌≡◌};
 ghost use Rattle.nas_5gs.specs.Leaves.{leaves, leaves_two};
 ghost use Rattle.nas_c.specs.Numbers.{open_numbers, across_numbers, open_eps_numbers};
 
-use crate::{Left, Shown, answers};
+use crate::answers::no_such_way;
+use crate::{Left, Shown};
 use nas_5gs::Context;
 
 #[unsafe(no_mangle)]
@@ -17,12 +18,10 @@ pub extern "C" fn saihdelu_open(
 ) -> Left
     ensures { leaves_two result.answer result.context out.new second.new ≡ open_numbers context direction connection message.now out.old second.old }
 {
-    if crate::no_way(direction, connection) {
-        return answers::no_such_way(context);
-    }
-    let d = crate::direction_of(direction);
-    let k = crate::connection_of(connection);
-    answers::show_open(context.open(d, k, message, out, second))
+    let Some((d, k)) = crate::way_of(direction, connection) else {
+        return Left::from(no_such_way(context));
+    };
+    Left::from(context.open(d, k, message, out, second))
 }
 
 #[unsafe(no_mangle)]
@@ -36,11 +35,7 @@ pub extern "C" fn saihdelu_open_in_place(
 ) -> Shown
     ensures { leaves_two result context.new out.new second.new ≡ open_numbers context.old direction connection message.now out.old second.old }
 {
-    let before = *context;
-    let done = saihdelu_open(before, direction, connection, message, out, second);
-    let after = done.context;
-    *context = after;
-    done.answer
+    saihdelu_open(*context, direction, connection, message, out, second).keep(context)
 }
 
 // A message that may have been sealed on the other connection than the one that it arrives on; the answer has the one that it was taken on.
@@ -55,12 +50,10 @@ pub extern "C" fn saihdelu_open_across(
 ) -> Left
     ensures { leaves_two result.answer result.context out.new second.new ≡ across_numbers context direction connection message.now out.old second.old }
 {
-    if crate::no_way(direction, connection) {
-        return answers::no_such_way(context);
-    }
-    let d = crate::direction_of(direction);
-    let k = crate::connection_of(connection);
-    answers::show_across(handover::open_across(context, d, k, message, out, second))
+    let Some((d, k)) = crate::way_of(direction, connection) else {
+        return Left::from(no_such_way(context));
+    };
+    Left::from(handover::open_across(context, d, k, message, out, second))
 }
 
 #[unsafe(no_mangle)]
@@ -74,11 +67,7 @@ pub extern "C" fn saihdelu_open_across_in_place(
 ) -> Shown
     ensures { leaves_two result context.new out.new second.new ≡ across_numbers context.old direction connection message.now out.old second.old }
 {
-    let before = *context;
-    let done = saihdelu_open_across(before, direction, connection, message, out, second);
-    let after = done.context;
-    *context = after;
-    done.answer
+    saihdelu_open_across(*context, direction, connection, message, out, second).keep(context)
 }
 
 #[unsafe(no_mangle)]
@@ -89,5 +78,5 @@ pub extern "C" fn saihdelu_open_eps_message(
 ) -> Left
     ensures { leaves result.answer result.context out.new ≡ open_eps_numbers context message.now out.old }
 {
-    answers::show_eps_open(context.open_eps(message, out))
+    Left::from(context.open_eps(message, out))
 }

@@ -1,3 +1,4 @@
 pub mod Passed
+pub mod Handed
 pub mod Lengths
 pub mod Pairs

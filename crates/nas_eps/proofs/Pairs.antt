@@ -20,7 +20,7 @@ last-two k e = ap (λ (l : List ℕ). drop 2 l) (four k e)
 -- as four of which the first are zeros
 pub compared : (a b c d : ℕ) → a < 256 → b < 256 → c < 256 → d < 256 → eqb (a * 256 + b) (c * 256 + d) ≡ same (a ∷ b ∷ []) (c ∷ d ∷ [])
 compared a b c d pa pb pc pd =
-    let e : a * 256 + b ≡ ((0 * 256 + 0) * 256 + a) * 256 + b = omega arith in
-    let f : c * 256 + d ≡ ((0 * 256 + 0) * 256 + c) * 256 + d = omega arith in
+    let e : a * 256 + b ≡ 0 * 16777216 + 0 * 65536 + a * 256 + b = omega arith in
+    let f : c * 256 + d ≡ 0 * 16777216 + 0 * 65536 + c * 256 + d = omega arith in
     let z : 0 < 256 = omega arith in
     rw (e, f) (compared-four 0 0 a b 0 0 c d z z pa pb z z pc pd)

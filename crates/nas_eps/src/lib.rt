@@ -62,6 +62,7 @@ impl Context {
     }
 
     // Refusals 13, 14 and 16 of what the context holds.
+    #[tactic(auto, unfolding(crate::specs::Places::fault_of))]
     fn check(self) -> Result<(), Refusal>
         ensures { refused result ≡ fault_of self }
     {

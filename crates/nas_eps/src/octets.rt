@@ -45,6 +45,7 @@ fn is_wrong_length(first: u8, n: usize) -> bool
 }
 
 // Refusals 1, 2 and 3 of a message's first octet and length.
+#[tactic(auto, unfolding(crate::specs::Open::form_refusal))]
 pub fn check_form(message: &[u8]) -> Result<(), Refusal>
     ensures { refused result ≡ form_refusal message.now }
 {

@@ -23,6 +23,7 @@ fn check_way(direction: Direction) -> Result<(), Refusal>
 }
 
 impl Context {
+    #[tactic(auto, unfolding(crate::specs::Open::open_refusal))]
     fn check_open(self, direction: Direction, message: &[u8], room: usize) -> Result<(), Refusal>
         ensures { refused result ≡ open_refusal self (place_of direction) message.now room }
     {

@@ -12,6 +12,7 @@ use nas_core::{Done, Spent};
 use refusals::Refusal;
 
 impl Context {
+    #[tactic(auto, unfolding(crate::specs::Seal::seal_refusal))]
     fn check_seal(
         self,
         header_type: u8,
@@ -65,6 +66,7 @@ impl Context {
         }
     }
 
+    #[tactic(auto, unfolding(crate::specs::Seal::request_refusal))]
     fn check_request(self, identifier: u8, room: usize) -> Result<(), Refusal>
         ensures { refused result ≡ request_refusal self identifier room }
     {

@@ -10,9 +10,9 @@ returns-then-wraps c =
 pub returns-in-None : goal.returns-in-None
 returns-in-None c =
     rw (c.on-in-None.ensures.0, c.on-in-None.ensures.1, c.on-in-None.ensures.2)
-    (this-one _ _ _ _ _ _ _ _ _ _ c.open-here.ensures c.in-None.ensures.none)
+    (this-one _ _ _ _ _ _ _ _ _ _ c.open-here.ensures (sym c.wraps.ensures ∙ c.if-wraps.false) c.in-None.ensures.none)
 
 pub returns-in-Some : goal.returns-in-Some
 returns-in-Some c =
     let missed = c.in-Some.ensures.some in
-    not-this _ _ _ _ _ _ _ _ _ _ c.open-here.ensures _ missed.0 missed.1 (sym c.wraps.ensures ∙ c.if-wraps.false) _ c.elsewhere.ensures
+    not-this _ _ _ _ _ _ _ _ _ _ c.open-here.ensures (sym c.wraps.ensures ∙ c.if-wraps.false) _ missed.0 missed.1 _ c.elsewhere.ensures

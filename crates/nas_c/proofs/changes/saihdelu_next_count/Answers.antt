@@ -1,14 +1,15 @@
-use mathlib.Core.Path.{sym, ◌∙◌}
+use mathlib.Core.Path.{ap, ◌∙◌}
 use Rattle.nas_c.specs.Numbers.{next_count_number}
+use Rattle.nas_c.proofs.Ways.{there_is, there_is_none}
 use Rattle.nas_c.proofs.changes.saihdelu_next_count.Goals as goal
 
-pub returns-then-no_way : goal.returns-then-no_way
+pub returns-in_default : goal.returns-in_default
 unfolding next_count_number
-returns-then-no_way c =
-    simp (sym c.no_way.ensures ∙ c.if-no_way.true)
+returns-in_default c =
+    simp (there_is_none _ _ c.way_of.ensures c.in_default.is)
 
 pub returns : goal.returns
 unfolding next_count_number
 returns c =
-    let way = sym c.no_way.ensures ∙ c.if-no_way.false in
-    c.next_count.ensures ∙ simp (c.connection_of-k.ensures, c.direction_of-d.ensures, way)
+    let way = there_is _ _ _ c.way_of.ensures c.in-Some.is in
+    c.next_count.ensures ∙ simp (ap (λ w. w.0) way.1, ap (λ w. w.1) way.1, way.0)

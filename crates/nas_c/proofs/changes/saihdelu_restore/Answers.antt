@@ -1,9 +1,8 @@
-use mathlib.Core.Path.{ap}
-use Rattle.nas_5gs.specs.Leaves.{change_values}
-use Rattle.nas_c.specs.Numbers.{shown, numbers, restore_numbers}
+use Rattle.nas_c.specs.Numbers.{restore_numbers}
+use Rattle.nas_c.proofs.Answered.{change}
 use Rattle.nas_c.proofs.changes.saihdelu_restore.Goals as goal
 
 pub returns : goal.returns
 unfolding restore_numbers
 returns c =
-    rw c.show_change.ensures (ap (numbers shown change_values) c.restore.ensures)
+    rw c.from.ensures (change _ c.restore.ensures)

@@ -1,9 +1,8 @@
-use mathlib.Core.Path.{ap}
-use Rattle.nas_5gs.specs.Leaves.{change_values}
-use Rattle.nas_c.specs.Numbers.{shown, numbers, window_numbers}
+use Rattle.nas_c.specs.Numbers.{window_numbers}
+use Rattle.nas_c.proofs.Answered.{change}
 use Rattle.nas_c.proofs.changes.saihdelu_set_window.Goals as goal
 
 pub returns : goal.returns
 unfolding window_numbers
 returns c =
-    rw c.show_change.ensures (ap (numbers shown change_values) c.set_window.ensures)
+    rw c.from.ensures (change _ c.set_window.ensures)

@@ -1,14 +1,15 @@
-use mathlib.Core.Path.{sym, ◌∙◌}
+use mathlib.Core.Path.{◌∙◌}
 use Rattle.nas_c.specs.EpsNumbers.{next_count_number}
+use Rattle.nas_c.proofs.Ways.{there_is, there_is_none}
 use Rattle.nas_c.proofs.eps.saihdelu_eps_next_count.Goals as goal
 
-pub returns-then-no_direction : goal.returns-then-no_direction
+pub returns-in_default : goal.returns-in_default
 unfolding next_count_number
-returns-then-no_direction c =
-    simp (sym c.no_direction.ensures ∙ c.if-no_direction.true)
+returns-in_default c =
+    simp (there_is_none _ _ c.direction_of.ensures c.in_default.is)
 
 pub returns : goal.returns
 unfolding next_count_number
 returns c =
-    let way = sym c.no_direction.ensures ∙ c.if-no_direction.false in
-    c.next_count.ensures ∙ simp (c.direction_of-d.ensures, way)
+    let way = there_is _ _ _ c.direction_of.ensures c.in-Some.is in
+    c.next_count.ensures ∙ simp (way.1, way.0)

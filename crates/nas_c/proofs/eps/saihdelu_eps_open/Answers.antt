@@ -1,16 +1,16 @@
-use mathlib.Core.Path.{sym, ap, ◌∙◌}
-use Rattle.nas_eps.specs.Leaves.{open_values}
-use Rattle.nas_c.specs.Numbers.{numbers}
-use Rattle.nas_c.specs.EpsNumbers.{shown_open, open_numbers}
+use mathlib.Core.Path.{◌∙◌}
+use Rattle.nas_c.specs.EpsNumbers.{open_numbers}
+use Rattle.nas_c.proofs.Answered.{open_on_eps}
+use Rattle.nas_c.proofs.Ways.{there_is, there_is_none}
 use Rattle.nas_c.proofs.eps.saihdelu_eps_open.Goals as goal
 
-pub returns-then-no_direction : goal.returns-then-no_direction
+pub returns-in_default : goal.returns-in_default
 unfolding open_numbers
-returns-then-no_direction c =
-    simp (c.no_such_way.ensures, sym c.no_direction.ensures ∙ c.if-no_direction.true)
+returns-in_default c =
+    simp (c.from.ensures, c.no_such_way.ensures, there_is_none _ _ c.direction_of.ensures c.in_default.is)
 
 pub returns : goal.returns
 unfolding open_numbers
 returns c =
-    let way = sym c.no_direction.ensures ∙ c.if-no_direction.false in
-    rw c.show_open.ensures (ap (numbers shown_open open_values) c.open.ensures ∙ simp (c.direction_of-d.ensures, way))
+    let way = there_is _ _ _ c.direction_of.ensures c.in-Some.is in
+    rw c.from-2.ensures (open_on_eps _ c.open.ensures ∙ simp (way.1, way.0))

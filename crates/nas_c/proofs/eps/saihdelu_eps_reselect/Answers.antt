@@ -1,10 +1,8 @@
-use mathlib.Core.Path.{ap}
-use Rattle.nas_eps.specs.Leaves.{change_values}
-use Rattle.nas_c.specs.Numbers.{shown, numbers}
 use Rattle.nas_c.specs.EpsNumbers.{reselect_numbers}
+use Rattle.nas_c.proofs.Answered.{eps_change}
 use Rattle.nas_c.proofs.eps.saihdelu_eps_reselect.Goals as goal
 
 pub returns : goal.returns
 unfolding reselect_numbers
 returns c =
-    rw c.show_change.ensures (ap (numbers shown change_values) c.reselect.ensures)
+    rw c.from.ensures (eps_change _ c.reselect.ensures)

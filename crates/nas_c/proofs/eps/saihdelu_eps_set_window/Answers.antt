@@ -1,10 +1,8 @@
-use mathlib.Core.Path.{ap}
-use Rattle.nas_eps.specs.Leaves.{change_values}
-use Rattle.nas_c.specs.Numbers.{shown, numbers}
 use Rattle.nas_c.specs.EpsNumbers.{window_numbers}
+use Rattle.nas_c.proofs.Answered.{eps_change}
 use Rattle.nas_c.proofs.eps.saihdelu_eps_set_window.Goals as goal
 
 pub returns : goal.returns
 unfolding window_numbers
 returns c =
-    rw c.show_change.ensures (ap (numbers shown change_values) c.set_window.ensures)
+    rw c.from.ensures (eps_change _ c.set_window.ensures)

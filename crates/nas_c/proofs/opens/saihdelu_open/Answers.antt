@@ -1,15 +1,16 @@
-use mathlib.Core.Path.{sym, ap, ◌∙◌}
-use Rattle.nas_5gs.specs.Leaves.{open_values}
-use Rattle.nas_c.specs.Numbers.{numbers_two, open_numbers}
+use mathlib.Core.Path.{ap, ◌∙◌}
+use Rattle.nas_c.specs.Numbers.{open_numbers}
+use Rattle.nas_c.proofs.Answered.{open_two}
+use Rattle.nas_c.proofs.Ways.{there_is, there_is_none}
 use Rattle.nas_c.proofs.opens.saihdelu_open.Goals as goal
 
-pub returns-then-no_way : goal.returns-then-no_way
+pub returns-in_default : goal.returns-in_default
 unfolding open_numbers
-returns-then-no_way c =
-    simp (c.no_such_way.ensures, sym c.no_way.ensures ∙ c.if-no_way.true)
+returns-in_default c =
+    simp (c.from.ensures, c.no_such_way.ensures, there_is_none _ _ c.way_of.ensures c.in_default.is)
 
 pub returns : goal.returns
 unfolding open_numbers
 returns c =
-    let way = sym c.no_way.ensures ∙ c.if-no_way.false in
-    rw c.show_open.ensures (ap (numbers_two open_values) c.open.ensures ∙ simp (c.connection_of-k.ensures, c.direction_of-d.ensures, way))
+    let way = there_is _ _ _ c.way_of.ensures c.in-Some.is in
+    rw c.from-2.ensures (open_two _ c.open.ensures ∙ simp (ap (λ w. w.0) way.1, ap (λ w. w.1) way.1, way.0))

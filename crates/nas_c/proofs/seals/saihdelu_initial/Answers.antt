@@ -1,15 +1,16 @@
-use mathlib.Core.Path.{sym, ap, ◌∙◌}
-use Rattle.nas_5gs.specs.Leaves.{use_values}
-use Rattle.nas_c.specs.Numbers.{shown, numbers, initial_numbers}
+use mathlib.Core.Path.{◌∙◌}
+use Rattle.nas_c.specs.Numbers.{initial_numbers}
+use Rattle.nas_c.proofs.Answered.{use_next}
+use Rattle.nas_c.proofs.Ways.{there_is, there_is_none}
 use Rattle.nas_c.proofs.seals.saihdelu_initial.Goals as goal
 
-pub returns-then-no_connection : goal.returns-then-no_connection
+pub returns-in_default : goal.returns-in_default
 unfolding initial_numbers
-returns-then-no_connection c =
-    simp (c.no_such_way.ensures, sym c.no_connection.ensures ∙ c.if-no_connection.true)
+returns-in_default c =
+    simp (c.from.ensures, c.no_such_way.ensures, there_is_none _ _ c.connection_of.ensures c.in_default.is)
 
 pub returns : goal.returns
 unfolding initial_numbers
 returns c =
-    let way = sym c.no_connection.ensures ∙ c.if-no_connection.false in
-    rw c.show_use.ensures (ap (numbers shown use_values) c.initial.ensures ∙ simp (c.connection_of-k.ensures, way))
+    let way = there_is _ _ _ c.connection_of.ensures c.in-Some.is in
+    rw c.from-2.ensures (use_next _ c.initial.ensures ∙ simp (way.1, way.0))

@@ -1,15 +1,16 @@
-use mathlib.Core.Path.{sym, ap, ◌∙◌}
-use Rattle.nas_5gs.specs.Leaves.{use_values}
-use Rattle.nas_c.specs.Numbers.{shown, numbers, seal_numbers}
+use mathlib.Core.Path.{ap, ◌∙◌}
+use Rattle.nas_c.specs.Numbers.{seal_numbers}
+use Rattle.nas_c.proofs.Answered.{use_next}
+use Rattle.nas_c.proofs.Ways.{there_is, there_is_none}
 use Rattle.nas_c.proofs.seals.saihdelu_seal.Goals as goal
 
-pub returns-then-no_way : goal.returns-then-no_way
+pub returns-in_default : goal.returns-in_default
 unfolding seal_numbers
-returns-then-no_way c =
-    simp (c.no_such_way.ensures, sym c.no_way.ensures ∙ c.if-no_way.true)
+returns-in_default c =
+    simp (c.from.ensures, c.no_such_way.ensures, there_is_none _ _ c.way_of.ensures c.in_default.is)
 
 pub returns : goal.returns
 unfolding seal_numbers
 returns c =
-    let way = sym c.no_way.ensures ∙ c.if-no_way.false in
-    rw c.show_use.ensures (ap (numbers shown use_values) c.seal.ensures ∙ simp (c.connection_of-k.ensures, c.direction_of-d.ensures, way))
+    let way = there_is _ _ _ c.way_of.ensures c.in-Some.is in
+    rw c.from-2.ensures (use_next _ c.seal.ensures ∙ simp (ap (λ w. w.0) way.1, ap (λ w. w.1) way.1, way.0))

@@ -4,4 +4,4 @@ use Rattle.nas_eps.proofs.Context.resized.Goals as goal
 pub returns : goal.returns
 unfolding resized
 returns c =
-    simp (c.resize-2.ensures, c.resize.ensures)
+    simp (c.with_size-context.ensures)

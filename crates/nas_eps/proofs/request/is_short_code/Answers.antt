@@ -18,6 +18,6 @@ returns c =
     let m = c.args.received.now in
     let g = c.type_inv.received in
     let octet : (i : ℕ) → Fits w8 (get_or k i 0) = λ i. search rules in
-    rw (c.short.ensures, c.short-expected.ensures)
+    rw (c.from_be_bytes-stands.ensures, c.from_be_bytes.ensures)
     (compared _ _ _ _ (g 0).fits (g 1).fits (octet 2).fits (octet 3).fits
     ∙ sym (cong (two m c.requires) (last-two k (search rules))))

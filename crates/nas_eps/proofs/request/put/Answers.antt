@@ -4,6 +4,7 @@ use mathlib.Core.List.{List, [], ◌∷◌}
 use native.Mathlib.Omega.{arith}
 use lib.ListN.{length, take, drop, get_or, set, length-set}
 use lib.Seq.{take_at, length-take-le}
+use Rattle.aes.specs.declared.Input.{Input}
 use Rattle.nas_core.specs.Keyed.{code_by}
 use Rattle.nas_core.proofs.Octets.{stored, over-front}
 use Rattle.nas_eps.proofs.Pairs.{last-two}
@@ -43,7 +44,9 @@ returns c =
     let k = c.code-code.result in
     let b = a.identifier * 32 + a.count % 32 in
     let code : k ≡ code_by a.core a.count 0 0 (199 ∷ b ∷ []) =
-    c.code-code.ensures ∙ ap (λ (l : List ℕ). code_by a.core a.count 0 0 l) (head-there 199 b out room) in
+    c.code-code.ensures
+    ∙ ap (λ (i : Input). code_by a.core i.count i.bearer i.direction (take 2 (set (set out 0 199) 1 b))) c.input.ensures
+    ∙ ap (λ (l : List ℕ). code_by a.core a.count 0 0 l) (head-there 199 b out room) in
     let made : 199 ∷ b ∷ get_or k 2 0 ∷ get_or k 3 0 ∷ [] ≡ service_request a.core a.identifier a.count =
     ap (λ (l : List ℕ). 199 ∷ b ∷ l) (sym (last-two k (search rules)) ∙ ap (λ (l : List ℕ). drop 2 l) code) in
     stored (199 ∷ b ∷ get_or k 2 0 ∷ get_or k 3 0 ∷ []) out room

@@ -1,24 +1,20 @@
 -- An EPS call performed: which function of nas_eps is called with which of the line's numbers (docs/HEX-LINES.md, "EPS calls").
-use Rattle.std.specs.Prelude.{ℕ, cond, List, eqb, get_or}
+use Rattle.std.specs.Prelude.{ℕ, List, Option, Some, None, get_or}
 use Rattle.aes.specs.Keys.{key_of}
 use Rattle.nas_core.specs.Keyed.{core_with}
 use Rattle.nas_eps.specs.declared.Context.{Context}
-use Rattle.nas_core.specs.declared.Direction.{Direction}
-use Rattle.nas_core.specs.declared.Direction.TheVariants.{Uplink, Downlink}
 use Rattle.nas_eps.specs.Places.{two}
 use Rattle.nas_eps.specs.Leaves.{Leaves, leaves}
 use Rattle.nas_eps.specs.Changes.{new_of, restore_of, reselect_of, window_of}
 use Rattle.nas_eps.specs.Seal.{seal_of, service_request_of}
 use Rattle.nas_eps.specs.Open.{open_of}
-use Rattle.hex_eps_parse.specs.declared.Line.{Line}
+use Rattle.hex_perform.specs.Perform.{direction_of}
+use Rattle.hex_eps_parse.specs.Lines.{Line}
 use Rattle.hex_eps_parse.specs.declared.Call.{Call}
 use Rattle.hex_eps_parse.specs.declared.Call.TheVariants as call
 use Rattle.hex_eps.specs.declared.Answer.{Answer}
 use Rattle.hex_eps.specs.declared.Answer.TheVariants.{Bad, Done, Shown, Refused}
 use Rattle.hex_eps.specs.Answers.{change_answer, use_answer, open_answer, writing, keeping}
-
-unfoldable pub direction_of : ℕ → Direction
-direction_of n = cond (eqb n 0) Uplink Downlink
 
 -- any numbers
 unfoldable pub raw_context : ℕ → ℕ → ℕ → List ℕ → List ℕ → List ℕ → List ℕ → Context
@@ -41,5 +37,9 @@ call_of (call.Raw i c n) l x o out =
 call_of call.Show l x o out = leaves Shown x out
 
 -- more octets than the program holds: 4, before the library is called
+abbrev pub held_of : Option ℕ → Line → Context → List ℕ → List ℕ → Leaves Answer
+held_of None l x o out = leaves (Refused 4) x out
+held_of (Some n) l x o out = call_of l.call l x o out
+
 unfoldable pub perform_of : Line → Context → List ℕ → List ℕ → Leaves Answer
-perform_of l x o out = cond l.long (leaves (Refused 4) x out) (call_of l.call l x o out)
+perform_of l x o out = held_of l.octets l x o out

@@ -4,97 +4,89 @@ ghost use Rattle.nas_eps.specs.Leaves.{leaves};
 ghost use Rattle.nas_eps.specs.Changes.{new_of, restore_of, reselect_of, window_of};
 ghost use Rattle.nas_eps.specs.Seal.{seal_of, service_request_of};
 ghost use Rattle.nas_eps.specs.Open.{open_of};
+ghost use Rattle.hex_perform.specs.Perform.{direction_of};
 ghost use Rattle.hex_eps.specs.Answers.{change_answer, use_answer, open_answer, writing};
-ghost use Rattle.hex_eps.specs.Perform.{direction_of, raw_context, call_of};
+ghost use Rattle.hex_eps.specs.Perform.{raw_context, call_of};
 
-use crate::{Answer, Done};
+use crate::Answer;
 use aes::Key;
 use count::Record;
 use hex_eps_parse::{Call, Line};
-use nas_core::Core;
-use nas_eps::{ChangeDone, Context, Direction, UseDone};
+use hex_perform::direction_of;
+use nas_core::{Core, Done};
+use nas_eps::Context;
 
-fn direction_of(number: u8) -> Direction
-    ensures { result ≡ direction_of number }
+// What a call hands back, its answer as that value.
+fn told<A: Into<Answer>>(done: Done<A, Context>) -> Done<Answer, Context>
+    ensures { (A.converts done.answer result.answer) × (result.context ≡ done.context) }
 {
-    if number == 0 {
-        return Direction::Uplink;
-    }
-    Direction::Downlink
-}
-
-fn changed(done: ChangeDone) -> Done
-    ensures { (result.answer ≡ change_answer done.answer) × (result.context ≡ done.context) }
-{
-    let answer = done.answer;
-    let context = done.context;
     Done {
-        answer: crate::change_answer(answer),
-        context,
+        answer: done.answer.into(),
+        context: done.context,
     }
 }
 
-fn used(done: UseDone) -> Done
-    ensures { (result.answer ≡ use_answer done.answer) × (result.context ≡ done.context) }
-{
-    let answer = done.answer;
-    let context = done.context;
-    Done {
-        answer: crate::use_answer(answer),
-        context,
-    }
-}
-
-fn create(integrity: u8, ciphering: u8, ik: [u8; 16], ck: [u8; 16]) -> Done
+fn create(integrity: u8, ciphering: u8, ik: [u8; 16], ck: [u8; 16]) -> Done<Answer, Context>
     ensures { leaves result.answer result.context [] ≡ writing change_answer (new_of integrity ciphering ik ck) }
 {
-    changed(Context::new(integrity, ciphering, ik, ck))
+    told(Context::new(integrity, ciphering, ik, ck))
 }
 
-fn restore(integrity: u8, ciphering: u8, ik: [u8; 16], ck: [u8; 16], next: [u32; 2]) -> Done
+fn restore(
+    integrity: u8,
+    ciphering: u8,
+    ik: [u8; 16],
+    ck: [u8; 16],
+    next: [u32; 2],
+) -> Done<Answer, Context>
     ensures { leaves result.answer result.context [] ≡ writing change_answer (restore_of integrity ciphering ik ck (get_or next 0 0) (get_or next 1 0)) }
 {
-    let up = next[0];
-    let down = next[1];
-    changed(Context::restore(integrity, ciphering, ik, ck, up, down))
+    let [up, down] = next;
+    told(Context::restore(integrity, ciphering, ik, ck, up, down))
 }
 
-fn reselect(context: Context, integrity: u8, ciphering: u8, ik: [u8; 16], ck: [u8; 16]) -> Done
+fn reselect(
+    context: Context,
+    integrity: u8,
+    ciphering: u8,
+    ik: [u8; 16],
+    ck: [u8; 16],
+) -> Done<Answer, Context>
     ensures { leaves result.answer result.context [] ≡ writing change_answer (reselect_of context integrity ciphering ik ck) }
 {
-    changed(context.reselect(integrity, ciphering, ik, ck))
+    told(context.reselect(integrity, ciphering, ik, ck))
 }
 
-fn window(context: Context, size: u8) -> Done
+fn window(context: Context, size: u8) -> Done<Answer, Context>
     ensures { leaves result.answer result.context [] ≡ writing change_answer (window_of context size) }
 {
-    changed(context.set_window(size))
+    told(context.set_window(size))
 }
 
-fn seal(context: Context, header: u8, direction: u8, inner: &[u8], out: &mut [u8]) -> Done
+fn seal(
+    context: Context,
+    header: u8,
+    direction: u8,
+    inner: &[u8],
+    out: &mut [u8],
+) -> Done<Answer, Context>
     ensures { leaves result.answer result.context out.new ≡ writing use_answer (seal_of context header (direction_of direction) inner.now out.old) }
 {
     let d = direction_of(direction);
-    used(context.seal(header, d, inner, out))
+    told(context.seal(header, d, inner, out))
 }
 
-fn request(context: Context, identifier: u8, out: &mut [u8]) -> Done
+fn request(context: Context, identifier: u8, out: &mut [u8]) -> Done<Answer, Context>
     ensures { leaves result.answer result.context out.new ≡ writing use_answer (service_request_of context identifier out.old) }
 {
-    used(context.service_request(identifier, out))
+    told(context.service_request(identifier, out))
 }
 
-fn open(context: Context, direction: u8, message: &[u8], out: &mut [u8]) -> Done
+fn open(context: Context, direction: u8, message: &[u8], out: &mut [u8]) -> Done<Answer, Context>
     ensures { leaves result.answer result.context out.new ≡ writing open_answer (open_of context (direction_of direction) message.now out.old) }
 {
     let d = direction_of(direction);
-    let done = context.open(d, message, out);
-    let answer = done.answer;
-    let after = done.context;
-    Done {
-        answer: crate::open_answer(answer),
-        context: after,
-    }
+    told(context.open(d, message, out))
 }
 
 // A context put together by hand, with any numbers.
@@ -109,30 +101,29 @@ fn raw(
 ) -> Context
     ensures { result ≡ raw_context integrity ciphering size integrity_key ciphering_key next bits }
 {
-    let integrity_key = Key::of(integrity_key);
-    let ciphering_key = Key::of(ciphering_key);
     let core = Core {
         integrity,
         ciphering,
-        integrity_key,
-        ciphering_key,
+        integrity_key: Key::of(integrity_key),
+        ciphering_key: Key::of(ciphering_key),
         size,
-    };
-    let up = Record {
-        next: next[0],
-        bits: bits[0],
-    };
-    let down = Record {
-        next: next[1],
-        bits: bits[1],
     };
     Context {
         core,
-        records: [up, down],
+        records: [
+            Record {
+                next: next[0],
+                bits: bits[0],
+            },
+            Record {
+                next: next[1],
+                bits: bits[1],
+            },
+        ],
     }
 }
 
-pub fn call(line: Line, context: Context, octets: &[u8], out: &mut [u8]) -> Done
+pub fn call(line: Line, context: Context, octets: &[u8], out: &mut [u8]) -> Done<Answer, Context>
     ensures { leaves result.answer result.context out.new ≡ call_of line.call line context octets.now out.old }
 {
     let call = line.call;

@@ -2,6 +2,9 @@
 #![tactic(auto)]
 
 ghost use Rattle.std.specs.Prelude.{◌≡◌};
+ghost use Rattle.nas_core.specs.ChangeAnswer.{told_change};
+ghost use Rattle.nas_core.specs.UseAnswer.{told_use};
+ghost use Rattle.nas_eps.specs.OpenAnswer.{told_open};
 ghost use Rattle.nas_eps.specs.Leaves.{leaves};
 ghost use Rattle.hex_eps.specs.Answers.{change_answer, use_answer, open_answer};
 ghost use Rattle.hex_eps.specs.Perform.{perform_of};
@@ -10,7 +13,9 @@ mod calls;
 pub mod print;
 
 use hex_eps_parse::Line;
-use nas_eps::{ChangeAnswer, Context, OpenAnswer, UseAnswer};
+use nas_core::{Done, Spent};
+use nas_eps::{Context, Opened};
+use refusals::Refusal;
 
 // What is printed of a call, but for the octets that it wrote.
 #[derive(Clone, Copy)]
@@ -36,67 +41,64 @@ pub enum Answer {
     },
 }
 
-#[derive(Clone, Copy)]
-pub struct Done {
-    pub answer: Answer,
-    pub context: Context,
-}
+impl From<Result<(), Refusal>> for Answer {
+    ghost from_gives = { λ given answer. answer ≡ change_answer (told_change given) };
 
-fn change_answer(answer: ChangeAnswer) -> Answer
-    ensures { result ≡ change_answer answer }
-{
-    match answer {
-        ChangeAnswer::Refused(number) => Answer::Refused(number),
-        ChangeAnswer::Done => Answer::Done,
+    fn from(given: Result<(), Refusal>) -> Answer {
+        match given {
+            Ok(()) => Answer::Done,
+            Err(refusal) => Answer::Refused(refusal.number()),
+        }
     }
 }
 
-fn use_answer(answer: UseAnswer) -> Answer
-    ensures { result ≡ use_answer answer }
-{
-    match answer {
-        UseAnswer::Refused(number) => Answer::Refused(number),
-        UseAnswer::Used { count, wrote } => Answer::Used { count, wrote },
+impl From<Result<Spent, Refusal>> for Answer {
+    ghost from_gives = { λ given answer. answer ≡ use_answer (told_use given) };
+
+    fn from(given: Result<Spent, Refusal>) -> Answer {
+        match given {
+            Ok(Spent { count, wrote }) => Answer::Used { count, wrote },
+            Err(refusal) => Answer::Refused(refusal.number()),
+        }
     }
 }
 
-fn open_answer(answer: OpenAnswer) -> Answer
-    ensures { result ≡ open_answer answer }
-{
-    match answer {
-        OpenAnswer::Refused(number) => Answer::Refused(number),
-        OpenAnswer::Accepted {
-            count,
-            distance,
-            wrote,
-            header_type,
-        } => Answer::Opened {
-            count,
-            distance,
-            wrote,
-            header: header_type,
-        },
-        OpenAnswer::ServiceRequest {
-            count,
-            distance,
-            identifier,
-        } => Answer::Request {
-            count,
-            distance,
-            identifier,
-        },
+impl From<Result<Opened, Refusal>> for Answer {
+    ghost from_gives = { λ given answer. answer ≡ open_answer (told_open given) };
+
+    fn from(given: Result<Opened, Refusal>) -> Answer {
+        match given {
+            Ok(Opened::Message(message)) => Answer::Opened {
+                count: message.count,
+                distance: message.distance,
+                wrote: message.wrote,
+                header: message.header_type,
+            },
+            Ok(
+                Opened::ServiceRequest {
+                    count,
+                    distance,
+                    identifier,
+                },
+            ) => Answer::Request {
+                count,
+                distance,
+                identifier,
+            },
+            Err(refusal) => Answer::Refused(refusal.number()),
+        }
     }
 }
 
 // The call of a line on a context. `octets` are the line's, `out` is the output that is lent.
-pub fn perform(line: Line, context: Context, octets: &[u8], out: &mut [u8]) -> Done
+pub fn perform(line: Line, context: Context, octets: &[u8], out: &mut [u8]) -> Done<Answer, Context>
     ensures { leaves result.answer result.context out.new ≡ perform_of line context octets.now out.old }
 {
-    if line.long {
-        return Done {
-            answer: Answer::Refused(4),
+    match line.octets {
+        None => Done {
+            answer: Answer::Refused(Refusal::TooLong.number()),
             context,
-        };
+        },
+        Some(_) => calls::call(line, context, octets, out),
     }
-    calls::call(line, context, octets, out)
 }

@@ -12,22 +12,8 @@ pub fn wrote(answer: Answer) -> usize
     ensures { result ≡ wrote_of answer }
 {
     match answer {
-        Answer::Bad => 0,
-        Answer::Done => 0,
-        Answer::Shown => 0,
-        Answer::Refused(_) => 0,
-        Answer::Used { count: _, wrote } => wrote,
-        Answer::Opened {
-            count: _,
-            distance: _,
-            wrote,
-            header: _,
-        } => wrote,
-        Answer::Request {
-            count: _,
-            distance: _,
-            identifier: _,
-        } => 0,
+        Answer::Used { wrote, .. } | Answer::Opened { wrote, .. } => wrote,
+        _ => 0,
     }
 }
 

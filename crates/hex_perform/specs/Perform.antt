@@ -1,5 +1,5 @@
 -- A call performed: which function of nas_5gs is called with which of the line's numbers (docs/HEX-LINES.md, "Calls").
-use Rattle.std.specs.Prelude.{ℕ, cond, List, eqb, get_or}
+use Rattle.std.specs.Prelude.{ℕ, cond, List, Option, Some, None, eqb, get_or}
 use Rattle.nas_5gs.specs.declared.Context.{Context}
 use Rattle.nas_core.specs.declared.Direction.{Direction}
 use Rattle.nas_core.specs.declared.Direction.TheVariants.{Uplink, Downlink}
@@ -15,7 +15,7 @@ use Rattle.nas_5gs.specs.Open.{open_of}
 use Rattle.nas_5gs.specs.Eps.{seal_eps_of, open_eps_of}
 use Rattle.handover.specs.Across.{across_of}
 use Rattle.nas_5gs.specs.Containers.{n1_to_s1_of, verify_n1_to_s1_of, s1_to_n1_of, verify_s1_to_n1_of}
-use Rattle.hex_parse.specs.declared.Line.{Line}
+use Rattle.hex_parse.specs.Lines.{Line}
 use Rattle.hex_parse.specs.declared.Call.{Call}
 use Rattle.hex_parse.specs.declared.Call.TheVariants as call
 use Rattle.hex_perform.specs.declared.Answer.{Answer}
@@ -63,5 +63,9 @@ call_of (call.SealIn t d k) l x o out second = beside second (writing use_answer
 call_of (call.OpenIn d k) l x o out second = writing_two open_answer (open_of x (direction_of d) (connection_of k) o out second)
 
 -- more octets than the program holds: 4, before the library is called
+abbrev pub held_of : Option ℕ → Line → Context → List ℕ → List ℕ → List ℕ → LeavesTwo Answer
+held_of None l x o out second = leaves_two (Refused 4) x out second
+held_of (Some n) l x o out second = call_of l.call l x o out second
+
 unfoldable pub perform_of : Line → Context → List ℕ → List ℕ → List ℕ → LeavesTwo Answer
-perform_of l x o out second = cond l.long (leaves_two (Refused 4) x out second) (call_of l.call l x o out second)
+perform_of l x o out second = held_of l.octets l x o out second

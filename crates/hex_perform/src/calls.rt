@@ -12,86 +12,67 @@ ghost use Rattle.handover.specs.Across.{across_of};
 ghost use Rattle.hex_perform.specs.Answers.{change_answer, use_answer, octet_answer, open_answer, eps_answer, verify_answer, writing, writing_two, writing_across};
 ghost use Rattle.hex_perform.specs.Perform.{direction_of, connection_of, raw_context, call_of};
 
-use crate::{Answer, Done};
+use crate::{Answer, direction_of};
 use aes::Key;
 use count::Record;
 use hex_parse::{Call, Line};
-use nas_5gs::{ChangeDone, Connection, Context, Direction, OpenDone, UseDone};
-use nas_core::Core;
+use nas_5gs::{Connection, Context};
+use nas_core::{Core, Done};
 
-fn direction_of(number: u8) -> Direction
-    ensures { result ≡ direction_of number }
-{
-    if number == 0 {
-        return Direction::Uplink;
-    }
-    Direction::Downlink
-}
-
+#[tactic(auto, unfolding(crate::specs::Perform::connection_of))]
 fn connection_of(number: u8) -> Connection
     ensures { result ≡ connection_of number }
 {
-    if number == 1 {
-        return Connection::ThreeGpp;
+    match number {
+        1 => Connection::ThreeGpp,
+        _ => Connection::Non3Gpp,
     }
-    Connection::Non3Gpp
 }
 
-fn changed(done: ChangeDone) -> Done
-    ensures { (result.answer ≡ change_answer done.answer) × (result.context ≡ done.context) }
+// What a call hands back, its answer as that value.
+fn told<A: Into<Answer>>(done: Done<A, Context>) -> Done<Answer, Context>
+    ensures { (A.converts done.answer result.answer) × (result.context ≡ done.context) }
 {
-    let answer = done.answer;
-    let context = done.context;
     Done {
-        answer: crate::change_answer(answer),
-        context,
+        answer: done.answer.into(),
+        context: done.context,
     }
 }
 
-fn used(done: UseDone) -> Done
-    ensures { (result.answer ≡ use_answer done.answer) × (result.context ≡ done.context) }
-{
-    let answer = done.answer;
-    let context = done.context;
-    Done {
-        answer: crate::use_answer(answer),
-        context,
-    }
-}
-
-fn opened(done: OpenDone) -> Done
-    ensures { (result.answer ≡ open_answer done.answer) × (result.context ≡ done.context) }
-{
-    let answer = done.answer;
-    let context = done.context;
-    Done {
-        answer: crate::open_answer(answer),
-        context,
-    }
-}
-
-fn create(integrity: u8, ciphering: u8, ik: [u8; 16], ck: [u8; 16]) -> Done
+fn create(integrity: u8, ciphering: u8, ik: [u8; 16], ck: [u8; 16]) -> Done<Answer, Context>
     ensures { leaves result.answer result.context [] ≡ writing change_answer (new_of integrity ciphering ik ck) }
 {
-    changed(Context::new(integrity, ciphering, ik, ck))
+    told(Context::new(integrity, ciphering, ik, ck))
 }
 
-fn restore(integrity: u8, ciphering: u8, ik: [u8; 16], ck: [u8; 16], next: [u32; 4]) -> Done
+fn restore(
+    integrity: u8,
+    ciphering: u8,
+    ik: [u8; 16],
+    ck: [u8; 16],
+    next: [u32; 4],
+) -> Done<Answer, Context>
     ensures { leaves result.answer result.context [] ≡ writing change_answer (restore_of integrity ciphering ik ck next) }
 {
-    changed(Context::restore(integrity, ciphering, ik, ck, next))
+    told(Context::restore(integrity, ciphering, ik, ck, next))
 }
 
-fn reselect(context: Context, integrity: u8, ciphering: u8, ik: [u8; 16], ck: [u8; 16]) -> Done
+fn reselect(
+    context: Context,
+    integrity: u8,
+    ciphering: u8,
+    ik: [u8; 16],
+    ck: [u8; 16],
+) -> Done<Answer, Context>
     ensures { leaves result.answer result.context [] ≡ writing change_answer (reselect_of context integrity ciphering ik ck) }
 {
-    changed(context.reselect(integrity, ciphering, ik, ck))
+    told(context.reselect(integrity, ciphering, ik, ck))
 }
 
-fn window(context: Context, size: u8) -> Done
+fn window(context: Context, size: u8) -> Done<Answer, Context>
     ensures { leaves result.answer result.context [] ≡ writing change_answer (window_of context size) }
 {
-    changed(context.set_window(size))
+    told(context.set_window(size))
 }
 
 fn seal(
@@ -101,12 +82,12 @@ fn seal(
     connection: u8,
     inner: &[u8],
     out: &mut [u8],
-) -> Done
+) -> Done<Answer, Context>
     ensures { leaves result.answer result.context out.new ≡ writing use_answer (seal_of context header (direction_of direction) (connection_of connection) inner.now out.old) }
 {
     let d = direction_of(direction);
     let k = connection_of(connection);
-    used(context.seal(header, d, k, inner, out))
+    told(context.seal(header, d, k, inner, out))
 }
 
 fn opaque(
@@ -116,19 +97,19 @@ fn opaque(
     connection: u8,
     inner: &[u8],
     out: &mut [u8],
-) -> Done
+) -> Done<Answer, Context>
     ensures { leaves result.answer result.context out.new ≡ writing use_answer (seal_opaque_of context header (direction_of direction) (connection_of connection) inner.now out.old) }
 {
     let d = direction_of(direction);
     let k = connection_of(connection);
-    used(context.seal_opaque(header, d, k, inner, out))
+    told(context.seal_opaque(header, d, k, inner, out))
 }
 
-fn initial(context: Context, connection: u8, whole: &[u8], out: &mut [u8]) -> Done
+fn initial(context: Context, connection: u8, whole: &[u8], out: &mut [u8]) -> Done<Answer, Context>
     ensures { leaves result.answer result.context out.new ≡ writing use_answer (initial_of context (connection_of connection) whole.now out.old) }
 {
     let k = connection_of(connection);
-    used(context.initial(k, whole, out))
+    told(context.initial(k, whole, out))
 }
 
 fn open(
@@ -138,22 +119,12 @@ fn open(
     message: &[u8],
     out: &mut [u8],
     second: &mut [u8],
-) -> Done
+) -> Done<Answer, Context>
     ensures { leaves_two result.answer result.context out.new second.new ≡ writing_two open_answer (open_of context (direction_of direction) (connection_of connection) message.now out.old second.old) }
 {
     let d = direction_of(direction);
     let k = connection_of(connection);
-    opened(context.open(d, k, message, out, second))
-}
-
-// 1 or 2, as a line has it.
-fn digit_of(connection: Connection) -> u8
-    ensures { result ≡ bearer_no connection }
-{
-    match connection {
-        Connection::ThreeGpp => 1,
-        Connection::Non3Gpp => 2,
-    }
+    told(context.open(d, k, message, out, second))
 }
 
 fn across(
@@ -163,28 +134,19 @@ fn across(
     message: &[u8],
     out: &mut [u8],
     second: &mut [u8],
-) -> Done
+) -> Done<Answer, Context>
     ensures { leaves_two result.answer result.context out.new second.new ≡ writing_across (across_of context (direction_of direction) (connection_of connection) message.now out.old second.old) }
 {
     let d = direction_of(direction);
     let k = connection_of(connection);
-    let done = handover::open_across(context, d, k, message, out, second);
-    let taken = done.answer;
-    let after = done.context;
-    let on = taken.connection;
-    let answer = taken.answer;
-    let digit = digit_of(on);
-    Done {
-        answer: crate::across_answer(digit, answer),
-        context: after,
-    }
+    told(handover::open_across(context, d, k, message, out, second))
 }
 
 // The same calls on a context where it lies.
-fn window_in(context: Context, size: u8) -> Done
+fn window_in(context: Context, size: u8) -> Done<Answer, Context>
     ensures { leaves result.answer result.context [] ≡ writing change_answer (window_of context size) }
 {
-    changed(nas_lent::set_window(context, size))
+    told(nas_lent::set_window(context, size))
 }
 
 fn seal_in(
@@ -194,12 +156,12 @@ fn seal_in(
     connection: u8,
     inner: &[u8],
     out: &mut [u8],
-) -> Done
+) -> Done<Answer, Context>
     ensures { leaves result.answer result.context out.new ≡ writing use_answer (seal_of context header (direction_of direction) (connection_of connection) inner.now out.old) }
 {
     let d = direction_of(direction);
     let k = connection_of(connection);
-    used(nas_lent::seal(context, header, d, k, inner, out))
+    told(nas_lent::seal(context, header, d, k, inner, out))
 }
 
 fn open_in(
@@ -209,66 +171,48 @@ fn open_in(
     message: &[u8],
     out: &mut [u8],
     second: &mut [u8],
-) -> Done
+) -> Done<Answer, Context>
     ensures { leaves_two result.answer result.context out.new second.new ≡ writing_two open_answer (open_of context (direction_of direction) (connection_of connection) message.now out.old second.old) }
 {
     let d = direction_of(direction);
     let k = connection_of(connection);
-    opened(nas_lent::open(context, d, k, message, out, second))
+    told(nas_lent::open(context, d, k, message, out, second))
 }
 
-fn eps_seal(context: Context, inner: &[u8], out: &mut [u8]) -> Done
+fn eps_seal(context: Context, inner: &[u8], out: &mut [u8]) -> Done<Answer, Context>
     ensures { leaves result.answer result.context out.new ≡ writing use_answer (seal_eps_of context inner.now out.old) }
 {
-    used(context.seal_eps(inner, out))
+    told(context.seal_eps(inner, out))
 }
 
-fn eps_open(context: Context, message: &[u8], out: &mut [u8]) -> Done
+fn eps_open(context: Context, message: &[u8], out: &mut [u8]) -> Done<Answer, Context>
     ensures { leaves result.answer result.context out.new ≡ writing eps_answer (open_eps_of context message.now out.old) }
 {
-    let done = context.open_eps(message, out);
-    let answer = done.answer;
-    let after = done.context;
-    Done {
-        answer: crate::eps_answer(answer),
-        context: after,
-    }
+    told(context.open_eps(message, out))
 }
 
-fn n1_to_s1(context: Context) -> Done
+fn n1_to_s1(context: Context) -> Done<Answer, Context>
     ensures { leaves result.answer result.context [] ≡ writing octet_answer (n1_to_s1_of context) }
 {
-    let done = context.n1_to_s1_container();
-    let answer = done.answer;
-    let after = done.context;
-    Done {
-        answer: crate::octet_answer(answer),
-        context: after,
-    }
+    told(context.n1_to_s1_container())
 }
 
-fn verify_n1_to_s1(context: Context, octet: u8) -> Done
+fn verify_n1_to_s1(context: Context, octet: u8) -> Done<Answer, Context>
     ensures { leaves result.answer result.context [] ≡ writing verify_answer (verify_n1_to_s1_of context octet) }
 {
-    let done = context.verify_n1_to_s1_container(octet);
-    let answer = done.answer;
-    let next = done.context;
-    Done {
-        answer: crate::verify_answer(answer),
-        context: next,
-    }
+    told(context.verify_n1_to_s1_container(octet))
 }
 
-fn s1_to_n1(context: Context, ncc: u8, ngksi: u8, out: &mut [u8]) -> Done
+fn s1_to_n1(context: Context, ncc: u8, ngksi: u8, out: &mut [u8]) -> Done<Answer, Context>
     ensures { leaves result.answer result.context out.new ≡ writing use_answer (s1_to_n1_of context ncc ngksi out.old) }
 {
-    used(context.s1_to_n1_container(ncc, ngksi, out))
+    told(context.s1_to_n1_container(ncc, ngksi, out))
 }
 
-fn verify_s1_to_n1(context: Context, value: &[u8]) -> Done
+fn verify_s1_to_n1(context: Context, value: &[u8]) -> Done<Answer, Context>
     ensures { leaves result.answer result.context [] ≡ writing use_answer (verify_s1_to_n1_of context value.now) }
 {
-    used(context.verify_s1_to_n1_container(value))
+    told(context.verify_s1_to_n1_container(value))
 }
 
 // A context put together by hand, with any numbers.
@@ -283,38 +227,43 @@ fn raw(
 ) -> Context
     ensures { result ≡ raw_context integrity ciphering size integrity_key ciphering_key next bits }
 {
-    let integrity_key = Key::of(integrity_key);
-    let ciphering_key = Key::of(ciphering_key);
     let core = Core {
         integrity,
         ciphering,
-        integrity_key,
-        ciphering_key,
+        integrity_key: Key::of(integrity_key),
+        ciphering_key: Key::of(ciphering_key),
         size,
-    };
-    let a = Record {
-        next: next[0],
-        bits: bits[0],
-    };
-    let b = Record {
-        next: next[1],
-        bits: bits[1],
-    };
-    let c = Record {
-        next: next[2],
-        bits: bits[2],
-    };
-    let d = Record {
-        next: next[3],
-        bits: bits[3],
     };
     Context {
         core,
-        records: [a, b, c, d],
+        records: [
+            Record {
+                next: next[0],
+                bits: bits[0],
+            },
+            Record {
+                next: next[1],
+                bits: bits[1],
+            },
+            Record {
+                next: next[2],
+                bits: bits[2],
+            },
+            Record {
+                next: next[3],
+                bits: bits[3],
+            },
+        ],
     }
 }
 
-pub fn call(line: Line, context: Context, octets: &[u8], out: &mut [u8], second: &mut [u8]) -> Done
+pub fn call(
+    line: Line,
+    context: Context,
+    octets: &[u8],
+    out: &mut [u8],
+    second: &mut [u8],
+) -> Done<Answer, Context>
     ensures { leaves_two result.answer result.context out.new second.new ≡ call_of line.call line context octets.now out.old second.old }
 {
     let call = line.call;

@@ -2,16 +2,24 @@
 #![tactic(auto)]
 
 ghost use Rattle.std.specs.Prelude.{◌≡◌, length, replicate};
+ghost use Rattle.nas_core.specs.ChangeAnswer.{told_change};
+ghost use Rattle.nas_core.specs.UseAnswer.{told_use};
+ghost use Rattle.nas_5gs.specs.OctetAnswer.{told_octet};
+ghost use Rattle.nas_5gs.specs.OpenAnswer.{told_open};
+ghost use Rattle.nas_5gs.specs.EpsOpenAnswer.{told_eps_open};
+ghost use Rattle.nas_5gs.specs.VerifyAnswer.{told_verify};
 ghost use Rattle.nas_5gs.specs.Leaves.{leaves_two};
+ghost use Rattle.nas_5gs.specs.Places.{bearer_no};
 ghost use Rattle.hex_perform.specs.Answers.{change_answer, use_answer, octet_answer, open_answer, across_answer, eps_answer, verify_answer};
-ghost use Rattle.hex_perform.specs.Perform.{perform_of};
+ghost use Rattle.hex_perform.specs.Perform.{direction_of, perform_of};
 
 mod calls;
 
+use handover::AcrossAnswer;
 use hex_parse::Line;
-use nas_5gs::{
-    ChangeAnswer, Context, EpsOpenAnswer, OctetAnswer, OpenAnswer, UseAnswer, VerifyAnswer,
-};
+use nas_5gs::{Connection, Context, EpsReceived, MadeOctet, OpenError, Opened, Reached};
+use nas_core::{Direction, Done, Received, Spent};
+use refusals::Refusal;
 
 // What is printed of a call, but for the octets that it wrote. `Content` is refusal 8 with the number that it carries.
 #[derive(Clone, Copy)]
@@ -72,147 +80,144 @@ pub enum Answer {
     },
 }
 
-#[derive(Clone, Copy)]
-pub struct Done {
-    pub answer: Answer,
-    pub context: Context,
-}
+impl From<Result<(), Refusal>> for Answer {
+    ghost from_gives = { λ given answer. answer ≡ change_answer (told_change given) };
 
-fn change_answer(answer: ChangeAnswer) -> Answer
-    ensures { result ≡ change_answer answer }
-{
-    match answer {
-        ChangeAnswer::Refused(number) => Answer::Refused(number),
-        ChangeAnswer::Done => Answer::Done,
+    fn from(given: Result<(), Refusal>) -> Answer {
+        match given {
+            Ok(()) => Answer::Done,
+            Err(refusal) => Answer::Refused(refusal.number()),
+        }
     }
 }
 
-fn use_answer(answer: UseAnswer) -> Answer
-    ensures { result ≡ use_answer answer }
-{
-    match answer {
-        UseAnswer::Refused(number) => Answer::Refused(number),
-        UseAnswer::Used { count, wrote } => Answer::Used { count, wrote },
+impl From<Result<Spent, Refusal>> for Answer {
+    ghost from_gives = { λ given answer. answer ≡ use_answer (told_use given) };
+
+    fn from(given: Result<Spent, Refusal>) -> Answer {
+        match given {
+            Ok(Spent { count, wrote }) => Answer::Used { count, wrote },
+            Err(refusal) => Answer::Refused(refusal.number()),
+        }
     }
 }
 
-fn octet_answer(answer: OctetAnswer) -> Answer
-    ensures { result ≡ octet_answer answer }
-{
-    match answer {
-        OctetAnswer::Refused(number) => Answer::Refused(number),
-        OctetAnswer::Made { count, octet } => Answer::Made { count, octet },
+impl From<Result<MadeOctet, Refusal>> for Answer {
+    ghost from_gives = { λ given answer. answer ≡ octet_answer (told_octet given) };
+
+    fn from(given: Result<MadeOctet, Refusal>) -> Answer {
+        match given {
+            Ok(MadeOctet { count, octet }) => Answer::Made { count, octet },
+            Err(refusal) => Answer::Refused(refusal.number()),
+        }
     }
 }
 
-fn open_answer(answer: OpenAnswer) -> Answer
-    ensures { result ≡ open_answer answer }
-{
-    match answer {
-        OpenAnswer::Refused(number) => Answer::Refused(number),
-        OpenAnswer::Accepted {
-            count,
-            distance,
-            wrote,
-            header_type,
-            second,
-        } => Answer::Opened {
-            count,
-            distance,
-            wrote,
-            header: header_type,
-            second,
-        },
-        OpenAnswer::Content {
-            count,
-            distance,
-            wrote,
-            header_type,
-            number,
-        } => Answer::Content {
-            count,
-            distance,
-            wrote,
-            header: header_type,
-            number,
-        },
+impl From<Result<Opened, OpenError<Received>>> for Answer {
+    ghost from_gives = { λ given answer. answer ≡ open_answer (told_open given) };
+
+    fn from(given: Result<Opened, OpenError<Received>>) -> Answer {
+        match given {
+            Ok(Opened { message, second }) => Answer::Opened {
+                count: message.count,
+                distance: message.distance,
+                wrote: message.wrote,
+                header: message.header_type,
+                second,
+            },
+            Err(OpenError::Content(message, refusal)) => Answer::Content {
+                count: message.count,
+                distance: message.distance,
+                wrote: message.wrote,
+                header: message.header_type,
+                number: refusal.number(),
+            },
+            Err(OpenError::Refused(refusal)) => Answer::Refused(refusal.number()),
+        }
     }
 }
 
-fn across_answer(digit: u8, answer: OpenAnswer) -> Answer
-    ensures { result ≡ across_answer digit answer }
+// 1 or 2, as a line has it.
+fn digit_of(connection: Connection) -> u8
+    ensures { result ≡ bearer_no connection }
 {
-    match answer {
-        OpenAnswer::Refused(number) => Answer::Refused(number),
-        OpenAnswer::Accepted {
-            count,
-            distance,
-            wrote,
-            header_type,
-            second,
-        } => Answer::OpenedOn {
-            connection: digit,
-            count,
-            distance,
-            wrote,
-            header: header_type,
-            second,
-        },
-        OpenAnswer::Content {
-            count,
-            distance,
-            wrote,
-            header_type,
-            number,
-        } => Answer::ContentOn {
-            connection: digit,
-            count,
-            distance,
-            wrote,
-            header: header_type,
-            number,
-        },
+    match connection {
+        Connection::ThreeGpp => 1,
+        Connection::Non3Gpp => 2,
     }
 }
 
-fn eps_answer(answer: EpsOpenAnswer) -> Answer
-    ensures { result ≡ eps_answer answer }
-{
-    match answer {
-        EpsOpenAnswer::Refused(number) => Answer::Refused(number),
-        EpsOpenAnswer::Accepted {
-            count,
-            distance,
-            wrote,
-        } => Answer::Received {
-            count,
-            distance,
-            wrote,
-        },
-        EpsOpenAnswer::Content {
-            count,
-            distance,
-            wrote,
-            number,
-        } => Answer::EpsContent {
-            count,
-            distance,
-            wrote,
-            number,
-        },
+impl From<AcrossAnswer> for Answer {
+    ghost from_gives = { λ given answer. answer ≡ across_answer (bearer_no given.connection) (told_open given.answer) };
+
+    fn from(given: AcrossAnswer) -> Answer {
+        let connection = digit_of(given.connection);
+        match given.answer {
+            Ok(Opened { message, second }) => Answer::OpenedOn {
+                connection,
+                count: message.count,
+                distance: message.distance,
+                wrote: message.wrote,
+                header: message.header_type,
+                second,
+            },
+            Err(OpenError::Content(message, refusal)) => Answer::ContentOn {
+                connection,
+                count: message.count,
+                distance: message.distance,
+                wrote: message.wrote,
+                header: message.header_type,
+                number: refusal.number(),
+            },
+            Err(OpenError::Refused(refusal)) => Answer::Refused(refusal.number()),
+        }
     }
 }
 
-fn verify_answer(answer: VerifyAnswer) -> Answer
-    ensures { result ≡ verify_answer answer }
+impl From<Result<EpsReceived, OpenError<EpsReceived>>> for Answer {
+    ghost from_gives = { λ given answer. answer ≡ eps_answer (told_eps_open given) };
+
+    fn from(given: Result<EpsReceived, OpenError<EpsReceived>>) -> Answer {
+        match given {
+            Ok(message) => Answer::Received {
+                count: message.count,
+                distance: message.distance,
+                wrote: message.wrote,
+            },
+            Err(OpenError::Content(message, refusal)) => Answer::EpsContent {
+                count: message.count,
+                distance: message.distance,
+                wrote: message.wrote,
+                number: refusal.number(),
+            },
+            Err(OpenError::Refused(refusal)) => Answer::Refused(refusal.number()),
+        }
+    }
+}
+
+impl From<Result<Reached, Refusal>> for Answer {
+    ghost from_gives = { λ given answer. answer ≡ verify_answer (told_verify given) };
+
+    fn from(given: Result<Reached, Refusal>) -> Answer {
+        match given {
+            Ok(Reached { count, distance }) => Answer::Received {
+                count,
+                distance,
+                wrote: 0,
+            },
+            Err(refusal) => Answer::Refused(refusal.number()),
+        }
+    }
+}
+
+// The direction that a line names.
+#[tactic(auto, unfolding(crate::specs::Perform::direction_of))]
+pub fn direction_of(number: u8) -> Direction
+    ensures { result ≡ direction_of number }
 {
-    match answer {
-        VerifyAnswer::Refused(number) => Answer::Refused(number),
-        VerifyAnswer::Verified { count, distance } => Answer::Received {
-            count,
-            distance,
-            wrote: 0,
-        },
+    match number {
+        0 => Direction::Uplink,
+        _ => Direction::Downlink,
     }
 }
 
@@ -222,11 +227,7 @@ pub const FILL: u8 = 0xa5;
 pub fn fill(out: &mut [u8])
     ensures { out.new ≡ replicate (length out.old) 0xa5 }
 {
-    let mut i = 0;
-    while i < out.len() {
-        out[i] = FILL;
-        i += 1;
-    }
+    out.fill(FILL);
 }
 
 // The call of a line on a context. `octets` are the line's, `out` and `second` are the outputs that are lent.
@@ -236,14 +237,14 @@ pub fn perform(
     octets: &[u8],
     out: &mut [u8],
     second: &mut [u8],
-) -> Done
+) -> Done<Answer, Context>
     ensures { leaves_two result.answer result.context out.new second.new ≡ perform_of line context octets.now out.old second.old }
 {
-    if line.long {
-        return Done {
-            answer: Answer::Refused(4),
+    match line.octets {
+        None => Done {
+            answer: Answer::Refused(Refusal::TooLong.number()),
             context,
-        };
+        },
+        Some(_) => calls::call(line, context, octets, out, second),
     }
-    calls::call(line, context, octets, out, second)
 }

@@ -50,21 +50,6 @@ unfolding octets_word
 some-octets [] e = absurd (e refl)
 some-octets (b ∷ bs) e = refl
 
-module _ (rest : List ℕ) (i : ℕ) where
-  more : i < length rest → is_kept (drop i rest) ≡ (eqb (get_or rest i 0) 0xa5 && is_kept (drop (suc i) rest))
-  unfolding is_kept
-  more h = rw (drop-cons rest i 0)
-
-  pub stop : i < length rest → (get_or rest i 0 ≡ 0xa5 → ⊥) → is_kept (drop i rest) ≡ is_kept rest → false ≡ is_kept rest
-  stop h n g = sym (sym g ∙ more h ∙ rw (ne_eqb (get_or rest i 0) 0xa5 n))
-
-  pub go : i < length rest → get_or rest i 0 ≡ 0xa5 → is_kept (drop i rest) ≡ is_kept rest → is_kept (drop (i + 1) rest) ≡ is_kept rest
-  go h n g = rw add-one (sym (more h ∙ rw (eq-eqb (get_or rest i 0) 0xa5 n)) ∙ g)
-
-  pub end : length rest ≤ i → is_kept (drop i rest) ≡ is_kept rest → true ≡ is_kept rest
-  unfolding is_kept
-  end h e = sym (ap is_kept (drop_of_length-le rest {i = i} h)) ∙ e
-
 module _ {l m : List ℕ} {at r : ℕ} (a : Answer) (x : Context) (out second : List ℕ) (changed : Bool) where
   pub lined : (f g t u : List ℕ) (n k : ℕ) → n ≡ wrote_of a → k ≡ second_of a → f ≡ take n out → g ≡ take k second → t ≡ drop n out → u ≡ drop k second
       → Puts l at (answer_text a x f ++ second_text a g ++ end_text t u changed) m r

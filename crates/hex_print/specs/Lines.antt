@@ -1,5 +1,6 @@
 -- The line of an answer (docs/HEX-LINES.md, "Answers").
-use Rattle.std.specs.Prelude.{ℕ, Bool, true, cond, ◌&&◌, List, [], ◌∷◌, ◌++◌, eqb, take, drop}
+use Rattle.std.specs.Prelude.{ℕ, Bool, cond, ◌&&◌, List, [], ◌∷◌, ◌++◌, eqb, take, drop}
+use Rattle.std.specs.List.{list_all}
 use Rattle.hex_lines.specs.Hex.{text_of}
 use Rattle.count.specs.declared.Record.{Record}
 use Rattle.nas_core.specs.declared.Core.{Core}
@@ -97,9 +98,8 @@ second_text (OpenedOn k c d w t s) o = word 2 s ++ octets_word o
 second_text (ContentOn k c d w t n) o = word 2 0 ++ octets_word o
 
 -- ` !tail` if an octet after those written in either output is no longer a5
-unfoldable pub is_kept : List ℕ → Bool
-is_kept [] = true
-is_kept (b ∷ bs) = eqb b 0xa5 && is_kept bs
+abbrev pub is_kept : List ℕ → Bool
+is_kept = list_all (λ b. eqb b 0xa5)
 
 unfoldable pub tail_text : List ℕ → List ℕ → List ℕ
 tail_text rest second = cond (is_kept rest && is_kept second) [] (32 ∷ 33 ∷ 116 ∷ 97 ∷ 105 ∷ 108 ∷ [])

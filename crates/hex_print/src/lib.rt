@@ -1,7 +1,7 @@
 // The line of an answer. Each function puts its text behind what stands before a place, and answers the place after it.
 #![tactic(auto)]
 
-ghost use Rattle.std.specs.Prelude.{◌≡◌, ◌&&◌, [], ◌++◌, ◌+◌, ◌*◌, ◌≤◌, length, take, drop};
+ghost use Rattle.std.specs.Prelude.{◌≡◌, [], ◌++◌, ◌+◌, ◌*◌, ◌≤◌, length, take, drop};
 ghost use Rattle.hex_print.specs.Words.{Puts, word, decimal_word, octets_word, ok, no};
 ghost use Rattle.hex_print.specs.Lines.{wrote_of, second_of, used_text, received_text, content_text, answer_text, second_text, is_kept, tail_text, context_text, end_text, line_text};
 
@@ -16,53 +16,14 @@ pub fn wrote(answer: Answer) -> usize
     ensures { result ≡ wrote_of answer }
 {
     match answer {
-        Answer::Bad => 0,
-        Answer::Done => 0,
-        Answer::Shown => 0,
-        Answer::Refused(_) => 0,
-        Answer::Used { count: _, wrote } => wrote,
-        Answer::Made { count: _, octet: _ } => 0,
-        Answer::Opened {
-            count: _,
-            distance: _,
-            wrote,
-            header: _,
-            second: _,
-        } => wrote,
-        Answer::Content {
-            count: _,
-            distance: _,
-            wrote,
-            header: _,
-            number: _,
-        } => wrote,
-        Answer::EpsContent {
-            count: _,
-            distance: _,
-            wrote,
-            number: _,
-        } => wrote,
-        Answer::Received {
-            count: _,
-            distance: _,
-            wrote,
-        } => wrote,
-        Answer::OpenedOn {
-            connection: _,
-            count: _,
-            distance: _,
-            wrote,
-            header: _,
-            second: _,
-        } => wrote,
-        Answer::ContentOn {
-            connection: _,
-            count: _,
-            distance: _,
-            wrote,
-            header: _,
-            number: _,
-        } => wrote,
+        Answer::Used { wrote, .. }
+        | Answer::Opened { wrote, .. }
+        | Answer::Content { wrote, .. }
+        | Answer::EpsContent { wrote, .. }
+        | Answer::Received { wrote, .. }
+        | Answer::OpenedOn { wrote, .. }
+        | Answer::ContentOn { wrote, .. } => wrote,
+        _ => 0,
     }
 }
 
@@ -71,53 +32,8 @@ pub fn second(answer: Answer) -> usize
     ensures { result ≡ second_of answer }
 {
     match answer {
-        Answer::Bad => 0,
-        Answer::Done => 0,
-        Answer::Shown => 0,
-        Answer::Refused(_) => 0,
-        Answer::Used { count: _, wrote: _ } => 0,
-        Answer::Made { count: _, octet: _ } => 0,
-        Answer::Opened {
-            count: _,
-            distance: _,
-            wrote: _,
-            header: _,
-            second,
-        } => second,
-        Answer::Content {
-            count: _,
-            distance: _,
-            wrote: _,
-            header: _,
-            number: _,
-        } => 0,
-        Answer::EpsContent {
-            count: _,
-            distance: _,
-            wrote: _,
-            number: _,
-        } => 0,
-        Answer::Received {
-            count: _,
-            distance: _,
-            wrote: _,
-        } => 0,
-        Answer::OpenedOn {
-            connection: _,
-            count: _,
-            distance: _,
-            wrote: _,
-            header: _,
-            second,
-        } => second,
-        Answer::ContentOn {
-            connection: _,
-            count: _,
-            distance: _,
-            wrote: _,
-            header: _,
-            number: _,
-        } => 0,
+        Answer::Opened { second, .. } | Answer::OpenedOn { second, .. } => second,
+        _ => 0,
     }
 }
 
@@ -326,7 +242,7 @@ pub fn answer_text(
             distance,
             wrote,
             header,
-            second: _,
+            ..
         } => put_opened(count, distance, wrote, header, written, out, at),
         Answer::Content {
             count,
@@ -352,7 +268,7 @@ pub fn answer_text(
             distance,
             wrote,
             header,
-            second: _,
+            ..
         } => put_opened_on(connection, count, distance, wrote, header, written, out, at),
         Answer::ContentOn {
             connection,
@@ -376,88 +292,32 @@ fn put_second(wrote: usize, written: &[u8], out: &mut [u8], at: usize) -> usize
 }
 
 // WROTE2 and OCTETS2, behind an answer of `open`.
+#[tactic(auto, unfolding(crate::specs::Lines::second_text), using(crate::proofs::Laws::nothing))]
 pub fn second_text(answer: Answer, written: &[u8], out: &mut [u8], at: usize) -> usize
     requires { at + 64 + length written.now * 2 ≤ length out.old }
     ensures { Puts out.old at (second_text answer written.now) out.new result × (result ≤ at + 19 + length written.now * 2) }
 {
     match answer {
-        Answer::Bad => at,
-        Answer::Done => at,
-        Answer::Shown => at,
-        Answer::Refused(_) => at,
-        Answer::Used { count: _, wrote: _ } => at,
-        Answer::Made { count: _, octet: _ } => at,
-        Answer::Opened {
-            count: _,
-            distance: _,
-            wrote: _,
-            header: _,
-            second,
-        } => put_second(second, written, out, at),
-        Answer::Content {
-            count: _,
-            distance: _,
-            wrote: _,
-            header: _,
-            number: _,
-        } => put_second(0, written, out, at),
-        Answer::EpsContent {
-            count: _,
-            distance: _,
-            wrote: _,
-            number: _,
-        } => at,
-        Answer::Received {
-            count: _,
-            distance: _,
-            wrote: _,
-        } => at,
-        Answer::OpenedOn {
-            connection: _,
-            count: _,
-            distance: _,
-            wrote: _,
-            header: _,
-            second,
-        } => put_second(second, written, out, at),
-        Answer::ContentOn {
-            connection: _,
-            count: _,
-            distance: _,
-            wrote: _,
-            header: _,
-            number: _,
-        } => put_second(0, written, out, at),
+        Answer::Opened { second, .. } | Answer::OpenedOn { second, .. } => put_second(
+            second, written, out, at,
+        ),
+        Answer::Content { .. } | Answer::ContentOn { .. } => put_second(0, written, out, at),
+        _ => at,
     }
 }
 
 fn is_kept(rest: &[u8]) -> bool
     ensures { result ≡ is_kept rest.now }
 {
-    let mut i = 0;
-    while i < rest.len() {
-        if rest[i] != hex_perform::FILL {
-            return false;
-        }
-        i += 1;
-    }
-    true
+    rest.iter().all(|octet| *octet == hex_perform::FILL)
 }
 
-fn are_kept(rest: &[u8], second: &[u8]) -> bool
-    ensures { result ≡ (is_kept rest.now && is_kept second.now) }
-{
-    if !is_kept(rest) {
-        return false;
-    }
-    is_kept(second)
-}
-
+#[tactic(auto, unfolding(crate::specs::Lines::tail_text), using(crate::proofs::Laws::nothing))]
 fn tail(rest: &[u8], second: &[u8], out: &mut [u8], at: usize) -> usize
     requires { at + 6 ≤ length out.old }
     ensures { Puts out.old at (tail_text rest.now second.now) out.new result × (result ≤ at + 6) }
 {
-    if are_kept(rest, second) {
+    if is_kept(rest) && is_kept(second) {
         return at;
     }
     words::text(b" !tail", out, at)

@@ -1,12 +1,10 @@
 use Rattle.hex_perform.proofs.Laws as laws
-use Rattle.hex_perform.specs.Perform.{perform_of}
 use Rattle.hex_perform.proofs.perform.Goals as goal
 
-pub returns-then-line : goal.returns-then-line
-unfolding perform_of
-returns-then-line c =
-    rw c.if-line.true
+pub returns-in-None : goal.returns-in-None
+returns-in-None c =
+    laws.held c.args.line _ _ _ _ _ _ c.in-None.is (rw c.number.ensures)
 
-pub returns : goal.returns
-returns c =
-    laws.held c.args.line _ _ _ _ _ c.if-line.false c.call.ensures
+pub returns-in-Some : goal.returns-in-Some
+returns-in-Some c =
+    laws.held c.args.line _ _ _ _ _ _ c.in-Some.is c.call.ensures

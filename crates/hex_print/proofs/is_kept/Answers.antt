@@ -1,16 +1,8 @@
-use native.Mathlib.Omega.{arith}
-use borrow.Author.Rules.{rules}
-use Rattle.hex_print.proofs.Laws as laws
+use Rattle.std.proofs.Common.{eqb, rules, tests}
+use Rattle.std.proofs.lemmas.Iterator.{YieldsList-from_slice}
+use Rattle.std.proofs.lemmas.Iterator.Search.{all_from_yields_List}
 use Rattle.hex_print.proofs.is_kept.Goals as goal
-
-pub returns-then-rest-i : goal.returns-then-rest-i
-returns-then-rest-i c =
-    laws.stop _ _ (omega arith) c.if-rest-i.true (search rules)
-
-pub loop-i-preserved : goal.loop-i-preserved
-loop-i-preserved c =
-    (omega arith, laws.go _ _ (omega arith) c.if-rest-i.false (search rules))
 
 pub returns : goal.returns
 returns c =
-    laws.end _ c.loop-i.i (omega arith) c.loop-i.invariant.1
+    all_from_yields_List (λ b. eqb b 0xa5) _ _ _ c.all.ensures.ran (YieldsList-from_slice c.args.rest.now cc) (λ x b q k. search (rules, tests))

@@ -1,8 +1,7 @@
-use mathlib.Core.Path.{refl}
 use Rattle.hex_eps.specs.Answers as answers
 use Rattle.hex_eps.proofs.Laws as laws
 use Rattle.hex_eps.proofs.calls.open.Goals as goal
 
 pub returns : goal.returns
 returns c =
-    rw (← c.direction_of-d.ensures) (laws.answered answers.open_answer _ _ _ _ _ _ c.open_answer.ensures refl c.open-done.ensures)
+    rw (← c.direction_of-d.ensures) (laws.answered answers.open_answer _ _ _ _ _ _ c.told.ensures.0 c.told.ensures.1 c.open.ensures)

@@ -4,4 +4,4 @@ use Rattle.hex_eps.proofs.calls.raw.Goals as goal
 pub returns : goal.returns
 unfolding raw_context
 returns c =
-    simp (c.of-ciphering_key.ensures, c.of-integrity_key.ensures)
+    simp (c.of.ensures, c.of-2.ensures)

@@ -4,4 +4,4 @@ use Rattle.hex_eps.proofs.calls.request.Goals as goal
 
 pub returns : goal.returns
 returns c =
-    laws.answered answers.use_answer _ _ _ _ _ _ c.used.ensures.0 c.used.ensures.1 c.service_request.ensures
+    laws.answered answers.use_answer _ _ _ _ _ _ c.told.ensures.0 c.told.ensures.1 c.service_request.ensures

@@ -4,4 +4,4 @@ use Rattle.hex_eps.proofs.calls.window.Goals as goal
 
 pub returns : goal.returns
 returns c =
-    laws.answered answers.change_answer _ _ _ _ _ _ c.changed.ensures.0 c.changed.ensures.1 c.set_window.ensures
+    laws.answered answers.change_answer _ _ _ _ _ _ c.told.ensures.0 c.told.ensures.1 c.set_window.ensures

@@ -4,4 +4,4 @@ use Rattle.hex_perform.proofs.calls.eps_seal.Goals as goal
 
 pub returns : goal.returns
 returns c =
-    laws.answered answers.use_answer _ _ _ _ _ _ c.used.ensures.0 c.used.ensures.1 c.seal_eps.ensures
+    laws.answered answers.use_answer _ _ _ _ _ _ c.told.ensures.0 c.told.ensures.1 c.seal_eps.ensures

@@ -1,8 +1,7 @@
 use Rattle.hex_perform.specs.Answers as answers
 use Rattle.hex_perform.proofs.Laws as laws
-use mathlib.Core.Path.{refl}
 use Rattle.hex_perform.proofs.calls.n1_to_s1.Goals as goal
 
 pub returns : goal.returns
 returns c =
-    laws.answered answers.octet_answer _ _ _ _ _ _ c.octet_answer.ensures refl c.n1_to_s1_container-done.ensures
+    laws.answered answers.octet_answer _ _ _ _ _ _ c.told.ensures.0 c.told.ensures.1 c.n1_to_s1_container.ensures

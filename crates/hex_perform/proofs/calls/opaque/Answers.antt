@@ -4,4 +4,4 @@ use Rattle.hex_perform.proofs.calls.opaque.Goals as goal
 
 pub returns : goal.returns
 returns c =
-    rw (← c.direction_of-d.ensures, ← c.connection_of-k.ensures) (laws.answered answers.use_answer _ _ _ _ _ _ c.used.ensures.0 c.used.ensures.1 c.seal_opaque.ensures)
+    rw (← c.direction_of-d.ensures, ← c.connection_of-k.ensures) (laws.answered answers.use_answer _ _ _ _ _ _ c.told.ensures.0 c.told.ensures.1 c.seal_opaque.ensures)

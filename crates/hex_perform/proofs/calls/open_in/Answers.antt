@@ -4,4 +4,4 @@ use Rattle.hex_perform.proofs.calls.open_in.Goals as goal
 
 pub returns : goal.returns
 returns c =
-    rw (← c.direction_of-d.ensures, ← c.connection_of-k.ensures) (laws.answered-two answers.open_answer _ _ _ _ _ _ _ c.opened.ensures.0 c.opened.ensures.1 c.open.ensures)
+    rw (← c.direction_of-d.ensures, ← c.connection_of-k.ensures) (laws.answered-two answers.open_answer _ _ _ _ _ _ _ c.told.ensures.0 c.told.ensures.1 c.open.ensures)

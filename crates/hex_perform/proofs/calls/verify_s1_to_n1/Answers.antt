@@ -4,4 +4,4 @@ use Rattle.hex_perform.proofs.calls.verify_s1_to_n1.Goals as goal
 
 pub returns : goal.returns
 returns c =
-    laws.answered answers.use_answer _ _ _ _ _ _ c.used.ensures.0 c.used.ensures.1 c.verify_s1_to_n1_container.ensures
+    laws.answered answers.use_answer _ _ _ _ _ _ c.told.ensures.0 c.told.ensures.1 c.verify_s1_to_n1_container.ensures

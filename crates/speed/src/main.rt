@@ -4,100 +4,59 @@
 //   i1 i2 i3  make their code by 128-NIA1, 128-NIA2 or 128-NIA3 and write its first octet over their first one
 #![tactic(auto)]
 
-ghost use Rattle.std.specs.Prelude.{◌≤◌, length};
+ghost use Rattle.std.specs.Prelude.{◌≤◌};
+
+use aes::{Input, Key};
 
 const KEY: [u8; 16] = [0, 1, 2, 3, 4, 5, 6, 7, 8, 9, 10, 11, 12, 13, 14, 15];
 
+// The decimal number at a text's front, read no further once it has six digits.
 fn rounds(text: &[u8]) -> u32
     ensures { result ≤ 1000000 }
 {
-    let mut n: u32 = 0;
-    let mut i = 3;
-    while i < text.len() {
-        let b = text[i];
-        if b < 48 {
-            return n;
+    let mut n = 0;
+    for &c in text {
+        if !c.is_ascii_digit() || 100000 <= n {
+            break;
         }
-        if 57 < b {
-            return n;
-        }
-        if 100000 <= n {
-            return n;
-        }
-        n = n * 10 + (b - 48) as u32;
-        i += 1;
+        n = n * 10 + u32::from(c - b'0');
     }
     n
 }
 
-fn cipher_once(algorithm: u8, key: aes::Key, count: u32, m: &mut [u8]) {
-    if algorithm == b'1' {
-        snow3g::nea1(KEY, count, 1, 0, m);
+// An algorithm's code by its letter; any other letter is AES.
+fn algorithm(letter: u8) -> u8 {
+    match letter {
+        b'1' => 1,
+        b'3' => 3,
+        _ => 2,
+    }
+}
+
+fn run(text: &[u8], m: &mut [u8; 8192]) {
+    let [step, letter, _, digits @ ..] = text else {
         return;
-    }
-    if algorithm == b'3' {
-        zuc::nea3(KEY, count, 1, 0, m);
-        return;
-    }
-    aes::nea2(key, count, 1, 0, m);
-}
-
-fn code_once(algorithm: u8, key: aes::Key, count: u32, m: &[u8]) -> [u8; 4] {
-    if algorithm == b'1' {
-        return snow3g::nia1(KEY, count, 1, 0, m);
-    }
-    if algorithm == b'3' {
-        return zuc::nia3(KEY, count, 1, 0, m);
-    }
-    aes::nia2(key, count, 1, 0, m)
-}
-
-fn cipher(algorithm: u8, m: &mut [u8], n: u32) {
-    let key = aes::Key::of(KEY);
-    let mut done: u32 = 0;
-    while done < n {
-        cipher_once(algorithm, key, done, m);
-        done += 1;
-    }
-}
-
-fn code(algorithm: u8, m: &mut [u8], n: u32)
-    requires { 4 ≤ length m.old }
-{
-    let key = aes::Key::of(KEY);
-    let mut done: u32 = 0;
-    while done < n {
-        let r = code_once(algorithm, key, done, m);
-        m[0] = r[0];
-        done += 1;
-    }
-}
-
-fn run(text: &[u8], m: &mut [u8])
-    requires { 4 ≤ length m.old }
-{
-    let n = rounds(text);
-    if 1 < text.len() {
-        let algorithm = text[1];
-        if text[0] == b'e' {
-            cipher(algorithm, m, n);
+    };
+    let key = Key::of(KEY);
+    let algorithm = algorithm(*letter);
+    for count in 0..rounds(digits) {
+        let input = Input {
+            count,
+            bearer: 1,
+            direction: 0,
+        };
+        if *step == b'e' {
+            algorithms::cipher(algorithm, key, input, m);
         } else {
-            code(algorithm, m, n);
+            m[0] = algorithms::code(algorithm, key, input, m)[0];
         }
     }
 }
 
-fn wide(b: u8) -> u64 {
-    b as u64
-}
-
-fn show(m: &[u8])
-    requires { 4 ≤ length m.now }
-{
-    io::print_hex(1, wide(m[0]), 2);
-    io::print_hex(1, wide(m[1]), 2);
-    io::print_hex(1, wide(m[2]), 2);
-    io::print_hex(1, wide(m[3]), 2);
+fn show(octets: &[u8]) {
+    for &octet in octets {
+        io::print_hex(1, u64::from(octet), 2);
+    }
     io::write_all(1, b"\n");
 }
 
@@ -106,5 +65,5 @@ fn main() {
     let got = io::read_full(0, &mut text);
     let mut m = [0u8; 8192];
     run(&text[..got], &mut m);
-    show(&m);
+    show(&m[..4]);
 }

@@ -125,7 +125,15 @@ fn printed(
         return told(done, lent, second, is_changed, print, at);
     }
     let from = room(print, at);
-    hex_print::put_line(done.answer, done.context, lent, second, is_changed, print, from)
+    hex_print::put_line(
+        done.answer,
+        done.context,
+        lent,
+        second,
+        is_changed,
+        print,
+        from,
+    )
 }
 
 // The call of a line on a context, and the line of its answer.

@@ -79,6 +79,7 @@ fn ctr_run(w: &Schedule, t: [u8; 16], g: [Word; 5], m: &mut [u8], n: usize, end:
     let b = counter_block(t, n);
     let mut o = b[15];
     let mut i = n * 16;
+    // kept: the counter octet goes on beside the place, and the last turn takes what is left: a step of 32 would say the turns and leave both to more tests.
     while i < end {
         let p = second_state(w, g, o);
         let q = second_state(w, g, o.wrapping_add(1));

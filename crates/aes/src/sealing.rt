@@ -33,6 +33,7 @@ fn run_both(
     let mut o = b[15];
     let mut x = x;
     let mut i = i;
+    // kept: the chain and the counter octet go on beside the place, and the block of the turn before is read back from it.
     while i < end {
         let q = two_rounds(v, x);
         let s = two_states(w, v, second_state(w, g, o), q);

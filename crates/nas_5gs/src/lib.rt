@@ -95,6 +95,8 @@ fn place(direction: Direction, connection: Connection) -> usize
     }
 }
 
+// kept: nas_eps has calls of this form over two records: a type of another crate takes no methods, and promises and promises_eps speak of each context's own type.
+// kept: `size ≤ 64` in a `requires` is what `check` has found: a second type of context that says so would be made and taken apart in each call.
 impl Context {
     fn with(self, p: usize, rec: Record) -> Context
         requires { p < 4 }

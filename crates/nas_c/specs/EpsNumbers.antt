@@ -10,10 +10,7 @@ use Rattle.nas_eps.specs.Changes.{new_of, restore_of, reselect_of, window_of}
 use Rattle.nas_eps.specs.Seal.{seal_of, service_request_of}
 use Rattle.nas_eps.specs.Open.{open_of}
 use Rattle.nas_c.specs.declared.Shown.{Shown}
-use Rattle.nas_c.specs.Numbers.{no_direction, no_count, shown_with, shown, no_such_way, numbers}
-
-unfoldable pub direction_of : ℕ → Direction
-direction_of d = cond (eqb d 0) Uplink Downlink
+use Rattle.nas_c.specs.Numbers.{no_direction, direction_of, no_count, shown_with, shown, no_such_way, numbers}
 
 -- a call of one direction, or what stands for it if there is none
 abbrev pub way_or : {R : Type 0} → ℕ → R → (Direction → R) → R

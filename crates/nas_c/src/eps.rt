@@ -1,28 +1,15 @@
 // The calls over an EPS context.
-ghost use Rattle.std.specs.Prelude.{◌≡◌, [], Some, None, cond, Ok};
+ghost use Rattle.std.specs.Prelude.{◌≡◌, [], Ok};
 ghost use Rattle.nas_eps.specs.OpenAnswer.{told_open};
 ghost use Rattle.nas_eps.specs.Leaves.{leaves, open_values};
-ghost use Rattle.nas_c.specs.Numbers.{no_direction};
-ghost use Rattle.nas_c.specs.EpsNumbers.{direction_of, shown_open, new_numbers, restore_numbers, reselect_numbers, window_numbers, next_count_number, seal_numbers, request_numbers, open_numbers};
+ghost use Rattle.nas_c.specs.EpsNumbers.{shown_open, new_numbers, restore_numbers, reselect_numbers, window_numbers, next_count_number, seal_numbers, request_numbers, open_numbers};
 
 use crate::answers::{Shows, no_such_way};
-use crate::{EpsLeft, Shown};
-use nas_eps::{Context, Direction, Opened};
+use crate::{EpsLeft, Shown, direction_of};
+use nas_eps::{Context, Opened};
 
 // The header type that stands for a SERVICE REQUEST.
 const REQUEST: u8 = 12;
-
-// kept: as for a 5GS context (d: each context has its own enum, and one function for both would have to be given its variants).
-#[tactic(auto, unfolding(crate::specs::Numbers::no_direction, crate::specs::EpsNumbers::direction_of))]
-fn direction_of(n: u8) -> Option<Direction>
-    ensures { result ≡ cond (no_direction n) None (Some (direction_of n)) }
-{
-    match n {
-        0 => Some(Direction::Uplink),
-        1 => Some(Direction::Downlink),
-        _ => None,
-    }
-}
 
 // A SERVICE REQUEST is shown with header type 12, and its identifier as the octet.
 impl Shows for Opened {

@@ -85,6 +85,7 @@ pub fn away_from_null(from: u8, to: u8) -> bool
     from == 0 && to != 0
 }
 
+// kept: a header type is a number, as a code is: the calls take any, and refusal 3 is given for those that are none.
 // Refusal 3.
 #[tactic(auto, unfolding(crate::specs::Types::wrong_type))]
 pub fn is_wrong_type(header_type: u8) -> bool

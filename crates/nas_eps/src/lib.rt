@@ -41,6 +41,7 @@ pub enum Opened {
 // The record of SERVICE REQUESTs.
 const UPLINK: usize = 0;
 
+// kept: twins of nas_5gs's calls, and `size ≤ 64`, as there.
 impl Context {
     fn with(self, p: usize, rec: Record) -> Context
         requires { p < 2 }

@@ -16,6 +16,7 @@ fn substituted(table: &[u32; 256], w: u32) -> u32
         ^ table[d as usize].rotate_right(24)
 }
 
+// kept: S1 and S2 of the standard, each by its own table.
 pub fn s1_word(w: u32) -> u32
     ensures { result ≡ s1 w }
 {

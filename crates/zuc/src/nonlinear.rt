@@ -13,6 +13,7 @@ fn substituted(x: u32) -> u32
     u32::from_be_bytes([sub_s0(a), sub_s1(b), sub_s0(c), sub_s1(d)])
 }
 
+// kept: L1 and L2, R1 and R2, X1 to X3 are the standard's names, each one line: a parameter for the turns or the cells would name none of them.
 fn linear1(x: u32) -> u32
     ensures { result ≡ l1 x }
 {

@@ -34,6 +34,7 @@ static S1: [u8; 256] = [
     215, 176, 37, 172, 175, 18, 3, 226, 242,
 ];
 
+// kept: the S-boxes S0 and S1 of the standard, each by its own table.
 #[tactic(auto, using(crate::proofs::Substitutions::s0_at))]
 pub fn sub_s0(b: u8) -> u8
     ensures { result ≡ s0 b }

@@ -1,9 +1,8 @@
 -- The calls for C over an EPS context.
-use Rattle.std.specs.Prelude.{ℕ, cond, List, eqb}
+use Rattle.std.specs.Prelude.{ℕ, cond, List}
 use Rattle.nas_core.specs.Leaves.{Leaves}
 use Rattle.nas_eps.specs.declared.Context.{Context}
 use Rattle.nas_core.specs.declared.Direction.{Direction}
-use Rattle.nas_core.specs.declared.Direction.TheVariants.{Uplink, Downlink}
 use Rattle.nas_eps.specs.Leaves.{leaves, Values, change_values, use_values, open_values}
 use Rattle.nas_eps.specs.Places.{place_of, next_at}
 use Rattle.nas_eps.specs.Changes.{new_of, restore_of, reselect_of, window_of}

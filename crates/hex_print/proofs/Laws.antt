@@ -1,18 +1,16 @@
 -- Texts behind one another.
-use Prim.Native.Nat.{ℕ, suc, ◌+◌, ◌-◌, ◌*◌, ◌/◌, ◌%◌, ◌≤◌, ◌<◌}
+use Prim.Native.Nat.{ℕ, ◌+◌, ◌-◌, ◌*◌, ◌/◌, ◌%◌, ◌≤◌}
 use mathlib.Core.Path.{◌≡◌, refl, sym, ap, ◌∙◌}
-use mathlib.Core.Bool.{Bool, true, false, cond, ◌&&◌}
+use mathlib.Core.Bool.{Bool, true, false, cond}
 use mathlib.Core.List.{List, [], ◌∷◌, ◌++◌, append_assoc, append-nil}
-use native.Mathlib.Numerals.{add-one}
 use native.Mathlib.Omega.{arith}
-use borrow.Author.Tests.{eq-eqb, ne_eqb}
-use lib.Dec.{ltb, eqb}
-use lib.ListN.{length, get_or, take, drop, drop_of_length-le}
-use lib.Seq.{paste, take-paste, take_all, drop-cons}
+use lib.Dec.{ltb}
+use lib.ListN.{length, take, drop}
+use lib.Seq.{paste, take-paste, take_all}
 use Rattle.hex_lines.specs.Hex.{text_of, decimal_of, big_endian}
 use Rattle.hex_lines.proofs.Laws as hex
 use Rattle.hex_print.specs.Words.{Puts, octets_word}
-use Rattle.hex_print.specs.Lines.{wrote_of, second_of, answer_text, second_text, is_kept, end_text, line_text}
+use Rattle.hex_print.specs.Lines.{wrote_of, second_of, answer_text, second_text, end_text, line_text}
 use Rattle.hex_perform.specs.declared.Answer.{Answer}
 use Rattle.nas_5gs.specs.declared.Context.{Context}
 

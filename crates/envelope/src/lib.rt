@@ -47,6 +47,7 @@ const S1_INPUT: Input = Input {
     direction: CONTAINER_DIRECTION,
 };
 
+// kept: a direction is the algorithms' number here: what is made and read is defined for each number.
 // The inner message stands behind seven octets: it is ciphered as the header type says, and the header is written there.
 fn wrap(core: Core, header_type: u8, input: Input, message: &mut [u8])
     requires { 7 ≤ length message.old }

@@ -18,6 +18,7 @@ use nas_eps::{Context, Opened};
 use refusals::Refusal;
 
 // What is printed of a call, but for the octets that it wrote.
+// kept: refusals are the numbers that are printed, as in hex_perform's Answer.
 #[derive(Clone, Copy)]
 pub enum Answer {
     Bad,

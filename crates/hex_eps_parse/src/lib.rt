@@ -9,7 +9,7 @@ mod heads;
 use hex_parse::Parsed;
 
 // The calls, each with the numbers of its line. A direction is 0 or 1.
-// kept: `Bad` and the number, as hex_parse's `Call` has them: another form of line would need a second `ended`.
+// kept: `Bad`, as hex_parse's `Call` has it, since one `ended` serves both lines; and the direction, which is the line's digit as in hex_parse's `Call`.
 #[derive(Clone, Copy)]
 pub enum Call {
     Bad,

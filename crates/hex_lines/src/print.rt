@@ -3,6 +3,7 @@ ghost use Rattle.std.specs.Prelude.{◌≡◌, ◌+◌, ◌-◌, ◌*◌, ◌≤
 ghost use Rattle.std.proofs.Math.Seq.{paste};
 ghost use Rattle.hex_lines.specs.Hex.{char_of, text_of, decimal_of, big_endian};
 
+// kept: core's char::from_digit makes a char, which would be made an octet again.
 fn char_of(n: u8) -> u8
     requires { n < 16 }
     ensures { result ≡ char_of n }

@@ -12,6 +12,7 @@ pub fn is_digit(c: u8) -> bool
     matches!(c, b'0'..=b'9' | b'a'..=b'f')
 }
 
+// kept: core's char::to_digit takes capitals too, which are no digits of a line.
 // The value of a digit; 0 for any other character.
 pub fn digit(c: u8) -> u8
     ensures { (result ≡ digit_of c) × (result < 16) }

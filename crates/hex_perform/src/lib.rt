@@ -17,11 +17,12 @@ mod calls;
 
 use handover::AcrossAnswer;
 use hex_parse::Line;
-use nas_5gs::{Connection, Context, EpsReceived, MadeOctet, OpenError, Opened, Reached};
+use nas_5gs::{Context, EpsReceived, MadeOctet, OpenError, Opened, Reached};
 use nas_core::{Direction, Done, Received, Spent};
 use refusals::Refusal;
 
 // What is printed of a call, but for the octets that it wrote. `Content` is refusal 8 with the number that it carries.
+// kept: refusals are the numbers that are printed, and `Bad`, `Done`, `Shown` are lines of their own: hex_print's `answer_text` and journal_replay speak of these.
 #[derive(Clone, Copy)]
 pub enum Answer {
     Bad,
@@ -137,21 +138,11 @@ impl From<Result<Opened, OpenError<Received>>> for Answer {
     }
 }
 
-// 1 or 2, as a line has it.
-fn digit_of(connection: Connection) -> u8
-    ensures { result ≡ bearer_no connection }
-{
-    match connection {
-        Connection::ThreeGpp => 1,
-        Connection::Non3Gpp => 2,
-    }
-}
-
 impl From<AcrossAnswer> for Answer {
     ghost from_gives = { λ given answer. answer ≡ across_answer (bearer_no given.connection) (told_open given.answer) };
 
     fn from(given: AcrossAnswer) -> Answer {
-        let connection = digit_of(given.connection);
+        let connection = given.connection.bearer();
         match given.answer {
             Ok(Opened { message, second }) => Answer::OpenedOn {
                 connection,

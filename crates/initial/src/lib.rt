@@ -179,7 +179,7 @@ pub fn put_front(message: &[u8], out: &mut [u8])
 }
 
 // Whether the container of an opened message is asked for.
-// kept: header type and direction as numbers, as the look takes them
+// kept: header type and direction are numbers: the contract of `is_asked` gives an answer for each.
 #[tactic(auto, unfolding(crate::specs::Inside::is_asked))]
 pub fn is_asked(header_type: u8, direction: u8, message: &[u8]) -> bool
     ensures { result ≡ is_asked header_type direction message.now }

@@ -92,7 +92,7 @@ fn check(kind: u8, n: usize, room: usize) -> Result<(), Refusal>
     ensures { refused result ≡ refusal_of kind n room }
 {
     if !is_allowed(kind, n) {
-        return Err(Refusal::TooShort);
+        return Err(Refusal::WrongLength);
     }
     if MOST < n {
         return Err(Refusal::TooLong);

@@ -211,9 +211,9 @@ pub fn rest(kind: u8, octets: &[u8]) -> &[u8]
         .unwrap_or(&[])
 }
 
-// A key behind the codes of a creation, restore or reselection: IK at 0, CK at 16. One that is not whole is 0.
+// A key that is not whole is 0.
 #[tactic(auto, unfolding(crate::specs::Fields::key_at))]
-pub fn key(octets: &[u8], at: usize) -> [u8; 16]
+fn key(octets: &[u8], at: usize) -> [u8; 16]
     requires { at ≤ 16 }
     ensures { result ≡ key_at octets.now at }
 {
@@ -222,6 +222,20 @@ pub fn key(octets: &[u8], at: usize) -> [u8; 16]
         key.copy_from_slice(whole);
     }
     key
+}
+
+// The keys behind the codes of a creation, restore or reselection.
+// kept: two functions for two places, since neither may ask anything of a host that reads a journal.
+pub fn integrity_key(octets: &[u8]) -> [u8; 16]
+    ensures { result ≡ key_at octets.now 0 }
+{
+    key(octets, 0)
+}
+
+pub fn ciphering_key(octets: &[u8]) -> [u8; 16]
+    ensures { result ≡ key_at octets.now 16 }
+{
+    key(octets, 16)
 }
 
 fn count(octets: &[u8], at: usize) -> u32

@@ -102,7 +102,7 @@ fn long_refusal(entry: Entry) -> Refusal
     ensures { number_of result ≡ long_number entry }
 {
     match entry {
-        Entry::Unknown => Refusal::TooShort,
+        Entry::Unknown => Refusal::WrongLength,
         _ => Refusal::TooLong,
     }
 }
@@ -134,8 +134,8 @@ fn keyed(call: Call, next: [u32; 4], rest: &[u8]) -> Line
     ensures { result ≡ keyed call next rest.now }
 {
     Line {
-        integrity_key: journal_calls::key(rest, 0),
-        ciphering_key: journal_calls::key(rest, 16),
+        integrity_key: journal_calls::integrity_key(rest),
+        ciphering_key: journal_calls::ciphering_key(rest),
         next,
         ..Line::plain(0, call)
     }

@@ -67,7 +67,7 @@ impl Writer {
         let octets = hex_lines::front(&self.octets, line.octets.unwrap_or(0));
         match journal_lines::write(line, octets, &mut self.out[self.at..]) {
             Ok(n) => self.at = self.at.saturating_add(n),
-            Err(Refusal::TooShort) => self.leave_out(),
+            Err(Refusal::WrongLength) => self.leave_out(),
             Err(refusal) => tell_refusal(refusal),
         }
     }

@@ -97,7 +97,7 @@ pub fn not_known(octets: &[u8]) -> bool
     way_in(octets).is_none()
 }
 
-// kept: header types and directions as numbers. The crate stands for the Rust's `validate_message_direction` (README.md), and answers for each of them.
+// kept: header types and directions are numbers in `not_together`, `wrong_way` and `look`: their contracts give an answer for each number, 3 and 4 or 0 and 1 or not.
 #[tactic(auto, unfolding(crate::specs::Look::not_together, crate::specs::Look::alone))]
 pub fn not_together(header_type: u8, octets: &[u8]) -> bool
     ensures { result ≡ not_together header_type octets.now }

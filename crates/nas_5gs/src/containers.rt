@@ -90,7 +90,7 @@ impl Context {
     {
         self.check()?;
         if value.len() < 8 {
-            return Err(Refusal::TooShort);
+            return Err(Refusal::WrongLength);
         }
         if nas_core::LIMIT < value.len() {
             return Err(Refusal::TooLong);

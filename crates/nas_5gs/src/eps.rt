@@ -61,7 +61,7 @@ impl Context {
     {
         self.check()?;
         if message.len() < 6 {
-            return Err(Refusal::TooShort);
+            return Err(Refusal::WrongLength);
         }
         if message[0] != 0x17 {
             return Err(Refusal::WrongFirstOctet);
@@ -83,6 +83,7 @@ impl Context {
             Ok(taken) => taken,
             Err(missed) => return self.unchanged(Err(OpenError::Refused(Refusal::from(missed)))),
         };
+        // kept: two arms, since a late COUNT and a forward one are used under premises of their own.
         match taken {
             Taken::Late(c) => Done {
                 answer: hand_eps(c, rec.distance_to(c), &message[envelope::EPS_HEADER..]),

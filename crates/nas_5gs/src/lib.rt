@@ -74,7 +74,8 @@ pub struct Reached {
 }
 
 impl Connection {
-    fn bearer(self) -> u8
+    // 1 and 2.
+    pub fn bearer(self) -> u8
         ensures { result ≡ bearer_no self }
     {
         match self {

@@ -74,7 +74,7 @@ impl Context {
     {
         self.check()?;
         if message.len() < 7 {
-            return Err(Refusal::TooShort);
+            return Err(Refusal::WrongLength);
         }
         if message[0] != 0x7e {
             return Err(Refusal::WrongFirstOctet);
@@ -83,7 +83,7 @@ impl Context {
             return Err(Refusal::WrongHeaderType);
         }
         if message.len() == 7 {
-            return Err(Refusal::TooShort);
+            return Err(Refusal::WrongLength);
         }
         nas_core::check_handing(envelope::HEADER, message.len(), room)
     }
@@ -108,6 +108,7 @@ impl Context {
             Ok(taken) => taken,
             Err(missed) => return self.unchanged(Err(OpenError::Refused(Refusal::from(missed)))),
         };
+        // kept: two arms, since a late COUNT and a forward one are used under premises of their own.
         match taken {
             Taken::Late(count) => {
                 let input = Input {

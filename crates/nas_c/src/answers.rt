@@ -8,13 +8,12 @@ ghost use Rattle.nas_5gs.specs.EpsOpenAnswer.{told_eps_open};
 ghost use Rattle.nas_5gs.specs.OctetAnswer.{told_octet};
 ghost use Rattle.nas_5gs.specs.VerifyAnswer.{told_verify};
 ghost use Rattle.nas_5gs.specs.Leaves.{refusal, change_values, use_values, open_values, eps_open_values, octet_values, verify_values};
-ghost use Rattle.nas_5gs.specs.Places.{bearer_no};
 ghost use Rattle.nas_c.specs.declared.Shown.{Shown};
 ghost use Rattle.nas_c.specs.Numbers.{shown, shown_on, shown_result, shown_error, no_such_way};
 
 use crate::{EpsLeft, Left, Shown};
 use handover::AcrossAnswer;
-use nas_5gs::{Connection, EpsReceived, MadeOctet, OpenError, Opened, Reached};
+use nas_5gs::{EpsReceived, MadeOctet, OpenError, Opened, Reached};
 use nas_core::{Done, Received, Spent};
 use refusals::Refusal;
 
@@ -146,15 +145,6 @@ impl Shows for Reached {
     }
 }
 
-fn digit_of(connection: Connection) -> u8
-    ensures { result ≡ bearer_no connection }
-{
-    match connection {
-        Connection::ThreeGpp => 1,
-        Connection::Non3Gpp => 2,
-    }
-}
-
 // As an open, with the connection that the message was taken on: a refusal but 8 has none.
 impl Shows for AcrossAnswer {
     ghost shows = { λ a. shown_on a.connection (open_values (told_open a.answer)) };
@@ -164,7 +154,7 @@ impl Shows for AcrossAnswer {
         match self.answer {
             Err(OpenError::Refused(_)) => shown,
             _ => Shown {
-                connection: digit_of(self.connection),
+                connection: self.connection.bearer(),
                 ..shown
             },
         }

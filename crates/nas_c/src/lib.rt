@@ -46,6 +46,7 @@ pub struct EpsLeft {
     pub context: nas_eps::Context,
 }
 
+// kept: directions, connections, kinds and refusals are numbers in what is exported, and each call of both contexts has a name of its own: the C interface.
 // Answered for the next COUNT of a direction or connection that is none: it is no next COUNT.
 const NO_COUNT: u32 = 4294967295;
 

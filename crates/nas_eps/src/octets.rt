@@ -50,7 +50,7 @@ pub fn check_form(message: &[u8]) -> Result<(), Refusal>
     ensures { refused result ≡ form_refusal message.now }
 {
     if message.len() == 0 {
-        return Err(Refusal::TooShort);
+        return Err(Refusal::WrongLength);
     }
     let first = message[0];
     if first % 16 != 7 {
@@ -60,7 +60,7 @@ pub fn check_form(message: &[u8]) -> Result<(), Refusal>
         return Err(Refusal::WrongHeaderType);
     }
     if is_wrong_length(first, message.len()) {
-        return Err(Refusal::TooShort);
+        return Err(Refusal::WrongLength);
     }
     Ok(())
 }

@@ -53,6 +53,7 @@ impl Context {
             Ok(taken) => taken,
             Err(missed) => return self.unchanged(Err(Refusal::from(missed))),
         };
+        // kept: two arms, since a late COUNT and a forward one are used under premises of their own.
         match taken {
             Taken::Late(count) => Done {
                 answer: Ok(Opened::Message(Received {

@@ -10,7 +10,7 @@ use borrow.Author.Tests.{eqb-true, eqb-false}
 use Rattle.refusals.specs.Order.{◌when◌, first}
 use Rattle.refusals.specs.Numbers.{number_of}
 use Rattle.refusals.specs.declared.Refusal.{Refusal}
-use Rattle.refusals.specs.declared.Refusal.TheVariants.{TooShort, WrongFirstOctet, WrongHeaderType, TooLong, NoRoom, NoCount, WrongCode, NotKnown, NotTogether, WrongWay, NotEps, NotBuilt, WindowTooLarge, OtherAlgorithms, OutOfRange, Container}
+use Rattle.refusals.specs.declared.Refusal.TheVariants.{WrongLength, WrongFirstOctet, WrongHeaderType, TooLong, NoRoom, NoCount, WrongCode, NotKnown, NotTogether, WrongWay, NotEps, NotBuilt, WindowTooLarge, OtherAlgorithms, OutOfRange, Container}
 
 step : (n : ℕ) (l : List ℕ) (t : Bool) → eqb n 0 ≡ t → cond t (first l) n ≡ 0 → (n ≡ 0) × (first l ≡ 0)
 step n l true q e = (eqb-true n 0 q, e)
@@ -29,7 +29,7 @@ off n false h e = refl
 
 -- no refusal has number 0
 pub number-not0 : (r : Refusal) → eqb (number_of r) 0 ≡ false
-number-not0 TooShort = refl
+number-not0 WrongLength = refl
 number-not0 WrongFirstOctet = refl
 number-not0 WrongHeaderType = refl
 number-not0 TooLong = refl

@@ -1,10 +1,10 @@
 -- Document 01's numbers of refusals.
 use Rattle.std.specs.Prelude.{ℕ, Result, Ok, Err}
 use Rattle.refusals.specs.declared.Refusal.{Refusal}
-use Rattle.refusals.specs.declared.Refusal.TheVariants.{TooShort, WrongFirstOctet, WrongHeaderType, TooLong, NoRoom, NoCount, WrongCode, NotKnown, NotTogether, WrongWay, NotEps, NotBuilt, WindowTooLarge, OtherAlgorithms, OutOfRange, Container}
+use Rattle.refusals.specs.declared.Refusal.TheVariants.{WrongLength, WrongFirstOctet, WrongHeaderType, TooLong, NoRoom, NoCount, WrongCode, NotKnown, NotTogether, WrongWay, NotEps, NotBuilt, WindowTooLarge, OtherAlgorithms, OutOfRange, Container}
 
 abbrev pub number_of : Refusal → ℕ
-number_of TooShort = 1
+number_of WrongLength = 1
 number_of WrongFirstOctet = 2
 number_of WrongHeaderType = 3
 number_of TooLong = 4

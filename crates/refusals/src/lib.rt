@@ -10,7 +10,8 @@ use std::fmt;
 // The numbers are those of document 01, "Refusal numbers". 8 is not among them, because it hands over a plaintext: it carries one of these.
 #[derive(Clone, Copy, Debug, PartialEq, Eq)]
 pub enum Refusal {
-    TooShort = 1,
+    // too short, or of a length that its kind does not have
+    WrongLength = 1,
     WrongFirstOctet = 2,
     WrongHeaderType = 3,
     TooLong = 4,
@@ -50,7 +51,7 @@ impl Refusal {
 impl fmt::Display for Refusal {
     fn fmt<W: fmt::Write>(&self, f: &mut fmt::Formatter<W>) -> fmt::Result {
         f.write_str(match self {
-            Refusal::TooShort => "too short",
+            Refusal::WrongLength => "too short, or of a length that it cannot have",
             Refusal::WrongFirstOctet => "the first octet is not that of a protected message",
             Refusal::WrongHeaderType => "the security header type is none that protects a message",
             Refusal::TooLong => "too long",

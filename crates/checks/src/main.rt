@@ -10,6 +10,7 @@ use refusals::Refusal;
 
 const KEY: [u8; 16] = [0, 1, 2, 3, 4, 5, 6, 7, 8, 9, 10, 11, 12, 13, 14, 15];
 
+// kept: as in checks_eps: neither program stands on the other, and a crate for these lines would be longer than they are.
 fn number<A: Copy>(answer: Result<A, Refusal>) -> u8 {
     match answer {
         Ok(_) => 0,

@@ -20,6 +20,7 @@ use nas_5gs::{Connection, Context, Direction, EpsReceived, MadeOctet, OpenError,
 use nas_core::{Done, Received, Spent};
 use refusals::Refusal;
 
+// kept: each function is a call again under another contract, here and in covers_eps: the contract is what it is for.
 pub fn create(
     integrity: u8,
     ciphering: u8,

@@ -13,6 +13,7 @@ use nas_core::{Done, Spent};
 use nas_eps::{Context, Direction, Opened};
 use refusals::Refusal;
 
+// kept: each function is a call again under another contract, as in covers.
 pub fn create(
     integrity: u8,
     ciphering: u8,

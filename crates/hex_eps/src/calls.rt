@@ -16,6 +16,7 @@ use hex_perform::direction_of;
 use nas_core::{Core, Done};
 use nas_eps::Context;
 
+// kept: `told`, `create`, `reselect` and the From impls as in hex_perform, over a context and an Answer that are other types with other definitions.
 // What a call hands back, its answer as that value.
 fn told<A: Into<Answer>>(done: Done<A, Context>) -> Done<Answer, Context>
     ensures { (A.converts done.answer result.answer) × (result.context ≡ done.context) }

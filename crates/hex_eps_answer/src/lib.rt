@@ -9,6 +9,7 @@ use hex_eps_parse::{Call, Line};
 use nas_core::Done;
 use nas_eps::Context;
 
+// kept: `is_changed`, `told` and `printed` as in hex_answer. They call this context's functions: a trait of five methods would stand for three functions.
 // Whether a refusal changed the context. Creation and restore hand back a context whatever the slot held.
 fn is_changed(call: Call, done: Done<Answer, Context>, before: Context) -> bool {
     match (call, done.answer) {

@@ -38,6 +38,7 @@ pub fn room_of(lent: usize) -> u16
     lent.min(u16::MAX as usize) as u16
 }
 
+// kept: as in crate initial: neither stands on the other, and a crate for this line would be longer than it is.
 // An octet that is missing is 0.
 fn octet(octets: &[u8], at: usize) -> u8
     ensures { result ≡ get_or octets.now at 0 }

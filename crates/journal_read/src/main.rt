@@ -82,6 +82,7 @@ impl Reader {
         }
     }
 
+    // kept: as in nas_hex, whose buffer and place are fields of a struct of its own.
     fn flush(&mut self) {
         hex_answer::flush(&self.print, self.at);
         self.at = 0;

@@ -104,6 +104,7 @@ impl Writer {
     }
 }
 
+// kept: as in example: neither program stands on the other, and a crate for these lines would be longer than they are.
 fn tell_refusal(refusal: Refusal) {
     io::write_all(2, b"no ");
     io::print_decimal(2, u64::from(refusal.number()));

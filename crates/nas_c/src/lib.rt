@@ -31,7 +31,7 @@ pub struct Shown {
     pub second: usize,
 }
 
-// kept: `Left` and `EpsLeft` are one struct but for the context (a: no exported function may hand a generic struct to C).
+// kept: `Left` and `EpsLeft` are one struct but for the context : no exported function may hand a generic struct to C.
 #[repr(C)]
 #[derive(Clone, Copy)]
 pub struct Left {

@@ -101,6 +101,7 @@ impl Session {
         }
     }
 
+    // kept: as in journal_read, whose buffer and place are fields of a struct of its own.
     fn flush(&mut self) {
         hex_answer::flush(&self.print, self.at);
         self.at = 0;

@@ -24,6 +24,7 @@ fn rounds(text: &[u8]) -> u32
     n
 }
 
+// kept: as in vectors: neither program stands on the other, and a crate for these lines would be longer than they are.
 // An algorithm's code by its letter; any other letter is AES.
 fn algorithm(letter: u8) -> u8 {
     match letter {

@@ -19,6 +19,7 @@ pub enum Kind {
     Zuc,
 }
 
+// kept: as in speed: neither program stands on the other, and a crate for these lines would be longer than they are.
 // An algorithm's code by its letter; any other letter is AES.
 fn algorithm(letter: u8) -> u8 {
     match letter {

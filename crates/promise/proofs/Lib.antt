@@ -11,3 +11,4 @@ pub mod Sealed
 pub mod Told
 pub mod Steady
 pub mod Ends
+pub mod Read

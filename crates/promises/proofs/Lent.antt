@@ -3,6 +3,7 @@ use Prim.Native.Nat.{ℕ, ◌≤◌}
 use mathlib.Core.Path.{◌≡◌, sym, ap, subst}
 use mathlib.Core.List.{List}
 use lib.ListN.{length}
+use Rattle.std.specs.Prelude.{Ok}
 use Rattle.nas_5gs.specs.declared.Context.{Context}
 use Rattle.nas_core.specs.declared.Direction.{Direction}
 use Rattle.nas_5gs.specs.declared.Connection.{Connection}
@@ -19,4 +20,4 @@ wrote-within k x l meets = subst (λ (o : Outcome). o.values.wrote ≤ length (l
 -- a seal, from its own contract
 pub seal-within : (x y : Context) (t : ℕ) (d : Direction) (k : Connection) (inner out o : List ℕ) (c w : ℕ)
     → leaves (Used c w) y o ≡ seal_of x t d k inner out → w ≤ length out
-seal-within x y t d k inner out o c w e = wrote-within (seal5gs t d k inner out) x (leaves (Used c w) y o) (ap (outcome use_values) e)
+seal-within x y t d k inner out o c w e = wrote-within (seal5gs t d k inner out) x (leaves (Ok (record { count = c; wrote = w })) y o) (ap (outcome use_values) e)

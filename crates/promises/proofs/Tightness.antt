@@ -1,5 +1,5 @@
 -- No second answer fits, and wrong contexts do not keep demand 3.
-use Rattle.std.specs.Prelude.{Some}
+use Rattle.std.specs.Prelude.{⊤, Some, Result, Ok, Err}
 use Prim.Native.Nat.{ℕ, ◌-◌, ◌%◌, ◌≤◌, ◌<◌}
 use mathlib.Core.Path.{◌≡◌, refl, sym, ap, ◌∙◌, subst}
 use mathlib.Core.Bool.{Bool, true, cond}
@@ -22,17 +22,27 @@ use Rattle.nas_core.specs.Refusals.{unbuilt}
 use Rattle.nas_core.specs.Keyed.{wraps}
 use Rattle.nas_core.specs.Verify.{fits}
 use Rattle.nas_5gs.specs.declared.Context.{Context}
-use Rattle.nas_core.specs.ChangeAnswer.{ChangeAnswer}
+use Rattle.refusals.specs.declared.Refusal.{Refusal}
+use Rattle.nas_core.specs.declared.Spent.{Spent}
+use Rattle.nas_core.specs.declared.Received.{Received}
+use Rattle.nas_5gs.specs.declared.Opened.{Opened}
+use Rattle.nas_5gs.specs.declared.OpenError.{OpenError}
+use Rattle.nas_5gs.specs.declared.OpenError.TheVariants as error
+use Rattle.nas_5gs.specs.declared.EpsReceived.{EpsReceived}
+use Rattle.nas_5gs.specs.declared.MadeOctet.{MadeOctet}
+use Rattle.nas_5gs.specs.declared.Reached.{Reached}
+use Rattle.promise.proofs.Read.{refusal_with, refusal-back, change_with, change-told, use_with, use-told}
+use Rattle.nas_core.specs.ChangeAnswer.{ChangeAnswer, told_change}
 use Rattle.nas_core.specs.ChangeAnswer as change
-use Rattle.nas_core.specs.UseAnswer.{UseAnswer}
+use Rattle.nas_core.specs.UseAnswer.{UseAnswer, told_use}
 use Rattle.nas_core.specs.UseAnswer as use'
-use Rattle.nas_5gs.specs.OpenAnswer.{OpenAnswer}
+use Rattle.nas_5gs.specs.OpenAnswer.{OpenAnswer, told_open}
 use Rattle.nas_5gs.specs.OpenAnswer as open'
-use Rattle.nas_5gs.specs.EpsOpenAnswer.{EpsOpenAnswer}
+use Rattle.nas_5gs.specs.EpsOpenAnswer.{EpsOpenAnswer, told_eps_open}
 use Rattle.nas_5gs.specs.EpsOpenAnswer as eps
-use Rattle.nas_5gs.specs.OctetAnswer.{OctetAnswer}
+use Rattle.nas_5gs.specs.OctetAnswer.{OctetAnswer, told_octet}
 use Rattle.nas_5gs.specs.OctetAnswer as octet
-use Rattle.nas_5gs.specs.VerifyAnswer.{VerifyAnswer}
+use Rattle.nas_5gs.specs.VerifyAnswer.{VerifyAnswer, told_verify}
 use Rattle.nas_5gs.specs.VerifyAnswer as verify
 use Rattle.nas_core.specs.declared.Direction.TheVariants.{Uplink}
 use Rattle.nas_5gs.specs.declared.Connection.TheVariants.{ThreeGpp}
@@ -44,7 +54,7 @@ use Rattle.promises.specs.Calls.{Call, set_window, seal5gs, seal_opaque, seal_in
 use Rattle.promises.specs.Words.{record_of, TakenAs}
 use Rattle.promises.specs.Demand2.{Estimates}
 use Rattle.promises.specs.Demand3.{fresh as begun, NeverTo, Demand3, Fresh, StillOpen, Opens, Keeps}
-use Rattle.promises.specs.Tightness.{AnswerOf, Meets, OnlyOne, RefusesAll, OpensAsNext, LeavesStill, NeverLate, AsInP6, p6_calls, Tightness}
+use Rattle.promises.specs.Tightness.{AnswerOf, change_told, use_told, Meets, OnlyOne, RefusesAll, OpensAsNext, LeavesStill, NeverLate, AsInP6, p6_calls, Tightness}
 use Rattle.promises.proofs.Shapes.{does, acts}
 use Rattle.promises.proofs.Soundness.{does-valid, own-after}
 use Rattle.promises.proofs.Passing.{passes, gives-passed}
@@ -100,6 +110,43 @@ verify-back : (a : VerifyAnswer) → verify_read (verify_values a) ≡ a
 verify-back (verify.Refused n) = refl
 verify-back (verify.Verified c f) = refl
 
+-- and the code's answer from its words
+abbrev open_with : OpenAnswer → Result Opened (OpenError Received)
+open_with (open'.Refused n) = Err (error.Refused (refusal_with n))
+open_with (open'.Accepted c f w t s) = Ok (record { message = record { count = c; distance = f; wrote = w; header_type = t }; second = s })
+open_with (open'.Content c f w t n) = Err (error.Content (record { count = c; distance = f; wrote = w; header_type = t }) (refusal_with n))
+
+open-told : (a : Result Opened (OpenError Received)) → open_with (told_open a) ≡ a
+open-told (Ok o) = refl
+open-told (Err (error.Refused r)) = ap (λ q. Err (error.Refused q)) (refusal-back r)
+open-told (Err (error.Content m r)) = ap (λ q. Err (error.Content m q)) (refusal-back r)
+
+abbrev eps_with : EpsOpenAnswer → Result EpsReceived (OpenError EpsReceived)
+eps_with (eps.Refused n) = Err (error.Refused (refusal_with n))
+eps_with (eps.Accepted c f w) = Ok (record { count = c; distance = f; wrote = w })
+eps_with (eps.Content c f w n) = Err (error.Content (record { count = c; distance = f; wrote = w }) (refusal_with n))
+
+eps-told : (a : Result EpsReceived (OpenError EpsReceived)) → eps_with (told_eps_open a) ≡ a
+eps-told (Ok m) = refl
+eps-told (Err (error.Refused r)) = ap (λ q. Err (error.Refused q)) (refusal-back r)
+eps-told (Err (error.Content m r)) = ap (λ q. Err (error.Content m q)) (refusal-back r)
+
+abbrev octet_with : OctetAnswer → Result MadeOctet Refusal
+octet_with (octet.Refused n) = Err (refusal_with n)
+octet_with (octet.Made c o) = Ok (record { count = c; octet = o })
+
+octet-told : (a : Result MadeOctet Refusal) → octet_with (told_octet a) ≡ a
+octet-told (Ok m) = refl
+octet-told (Err r) = ap Err (refusal-back r)
+
+abbrev verify_with : VerifyAnswer → Result Reached Refusal
+verify_with (verify.Refused n) = Err (refusal_with n)
+verify_with (verify.Verified c f) = Ok (record { count = c; distance = f })
+
+verify-told : (a : Result Reached Refusal) → verify_with (told_verify a) ≡ a
+verify-told (Ok v) = refl
+verify-told (Err r) = ap Err (refusal-back r)
+
 -- so an outcome fixes what was left
 module _ {A : Type 0} (v : A → Values) (read : Values → A) (back : (a : A) → read (v a) ≡ a) where
   abbrev left_in : Outcome → Leaves A
@@ -111,22 +158,28 @@ module _ {A : Type 0} (v : A → Values) (read : Values → A) (back : (a : A) �
   one_left : (o : Outcome) (l l' : Leaves A) → outcome v l ≡ o → outcome v l' ≡ o → l ≡ l'
   one_left o l l' p q = sym (left_back l) ∙ ap left_in (p ∙ sym q) ∙ left_back l'
 
-one-used : (o : Outcome) (l l' : Leaves UseAnswer) → outcome use_values l ≡ o → outcome use_values l' ≡ o → l ≡ l'
-one-used = one_left use_values use_read use-back
+-- by the words of an answer and their values
+module _ {A W : Type 0} (told : A → W) (with' : W → A) (told-back : (a : A) → with' (told a) ≡ a) (v : W → Values) (read : Values → W)
+    (back : (w : W) → read (v w) ≡ w) where
+  one_told : (o : Outcome) (l l' : Leaves A) → outcome (λ a. v (told a)) l ≡ o → outcome (λ a. v (told a)) l' ≡ o → l ≡ l'
+  one_told = one_left (λ a. v (told a)) (λ u. with' (read u)) (λ a. ap with' (back (told a)) ∙ told-back a)
 
-one-changed : (o : Outcome) (l l' : Leaves ChangeAnswer) → outcome change_values l ≡ o → outcome change_values l' ≡ o → l ≡ l'
-one-changed = one_left change_values change_read change-back
+one-used : (o : Outcome) (l l' : Leaves (Result Spent Refusal)) → outcome use_told l ≡ o → outcome use_told l' ≡ o → l ≡ l'
+one-used = one_told told_use use_with use-told use_values use_read use-back
+
+one-changed : (o : Outcome) (l l' : Leaves (Result ⊤ Refusal)) → outcome change_told l ≡ o → outcome change_told l' ≡ o → l ≡ l'
+one-changed = one_told told_change change_with change-told change_values change_read change-back
 
 one_only : (k : Call) (x : Context) (l l' : Leaves (AnswerOf k)) → Meets k x l → Meets k x l' → l ≡ l'
 one_only (set_window n) x = one-changed (gives (set_window n) x)
 one_only (seal5gs t d k inner out) x = one-used (gives (seal5gs t d k inner out) x)
 one_only (seal_opaque t d k inner out) x = one-used (gives (seal_opaque t d k inner out) x)
 one_only (seal_initial k w out) x = one-used (gives (seal_initial k w out) x)
-one_only (open5gs d k m out out2) x = one_left open_values open_read open-back (gives (open5gs d k m out out2) x)
+one_only (open5gs d k m out out2) x = one_told told_open open_with open-told open_values open_read open-back (gives (open5gs d k m out out2) x)
 one_only (seal_eps inner out) x = one-used (gives (seal_eps inner out) x)
-one_only (open_eps m out) x = one_left eps_open_values eps_read eps-back (gives (open_eps m out) x)
-one_only make_n1_to_s1 x = one_left octet_values octet_read octet-back (gives make_n1_to_s1 x)
-one_only (verify_n1_to_s1 s) x = one_left verify_values verify_read verify-back (gives (verify_n1_to_s1 s) x)
+one_only (open_eps m out) x = one_told told_eps_open eps_with eps-told eps_open_values eps_read eps-back (gives (open_eps m out) x)
+one_only make_n1_to_s1 x = one_told told_octet octet_with octet-told octet_values octet_read octet-back (gives make_n1_to_s1 x)
+one_only (verify_n1_to_s1 s) x = one_told told_verify verify_with verify-told verify_values verify_read verify-back (gives (verify_n1_to_s1 s) x)
 one_only (make_s1_to_n1 ncc ngksi out) x = one-used (gives (make_s1_to_n1 ncc ngksi out) x)
 one_only (verify_s1_to_n1 v) x = one-used (gives (verify_s1_to_n1 v) x)
 one_only (reselect i c ik ck) x = one-changed (gives (reselect i c ik ck) x)

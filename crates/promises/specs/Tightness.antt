@@ -1,6 +1,6 @@
 -- "How tight the statements are": no second answer fits; and for wrong contexts that document 01 names, that they do not keep the promises. A wrong context is
 -- any G from calls and contexts to outcomes, with what is wrong about it; `Keeps` is demand 3, `Estimates` demand 2's estimate.
-use Rattle.std.specs.Prelude.{ℕ, ◌%◌, ◌≤◌, ◌≡◌, true, false, List, [], ◌∷◌, get_or}
+use Rattle.std.specs.Prelude.{ℕ, ⊤, ◌%◌, ◌≤◌, ◌≡◌, true, false, List, [], ◌∷◌, get_or, Result}
 use Rattle.aes.specs.Nas.{nea2_of}
 use Rattle.nas_core.specs.Verify.{fits}
 use Rattle.nas_5gs.specs.declared.Context.{Context}
@@ -9,12 +9,20 @@ use Rattle.nas_core.specs.declared.Direction.TheVariants.{Uplink}
 use Rattle.nas_5gs.specs.declared.Connection.{Connection}
 use Rattle.nas_5gs.specs.declared.Connection.TheVariants.{ThreeGpp}
 use Rattle.nas_5gs.specs.Places.{direction_no, bearer_no, place_of, next_at}
-use Rattle.nas_core.specs.ChangeAnswer.{ChangeAnswer}
-use Rattle.nas_core.specs.UseAnswer.{UseAnswer}
-use Rattle.nas_5gs.specs.OpenAnswer.{OpenAnswer}
-use Rattle.nas_5gs.specs.EpsOpenAnswer.{EpsOpenAnswer}
-use Rattle.nas_5gs.specs.OctetAnswer.{OctetAnswer}
-use Rattle.nas_5gs.specs.VerifyAnswer.{VerifyAnswer}
+use Rattle.refusals.specs.declared.Refusal.{Refusal}
+use Rattle.nas_core.specs.declared.Spent.{Spent}
+use Rattle.nas_core.specs.declared.Received.{Received}
+use Rattle.nas_5gs.specs.declared.Opened.{Opened}
+use Rattle.nas_5gs.specs.declared.OpenError.{OpenError}
+use Rattle.nas_5gs.specs.declared.EpsReceived.{EpsReceived}
+use Rattle.nas_5gs.specs.declared.MadeOctet.{MadeOctet}
+use Rattle.nas_5gs.specs.declared.Reached.{Reached}
+use Rattle.nas_core.specs.ChangeAnswer.{told_change}
+use Rattle.nas_core.specs.UseAnswer.{told_use}
+use Rattle.nas_5gs.specs.OpenAnswer.{told_open}
+use Rattle.nas_5gs.specs.EpsOpenAnswer.{told_eps_open}
+use Rattle.nas_5gs.specs.OctetAnswer.{told_octet}
+use Rattle.nas_5gs.specs.VerifyAnswer.{told_verify}
 use Rattle.nas_5gs.specs.Leaves.{Leaves, LeavesTwo, Values, change_values, use_values, open_values, eps_open_values, octet_values, verify_values}
 use Rattle.nas_5gs.specs.Envelope.{envelope}
 use Rattle.promises.specs.Calls.{Call, set_window, seal5gs, seal_opaque, seal_initial, open5gs, seal_eps, open_eps, make_n1_to_s1, verify_n1_to_s1, make_s1_to_n1, verify_s1_to_n1, reselect, Making, Outcome, outcome, first_of, second_of, gives, second, makes, context_after}
@@ -25,50 +33,56 @@ use Rattle.promises.specs.Demand3.{Fresh, StillOpen, Keeps}
 -- "what a public function says, refusals too, determines the answer, the context and each lent buffer; show that no second answer fits".
 -- The answer of each call, as its function gives it, with document 01's values of it:
 abbrev pub AnswerOf : Call → Type 0
-AnswerOf (set_window n) = ChangeAnswer
-AnswerOf (seal5gs t d k inner out) = UseAnswer
-AnswerOf (seal_opaque t d k inner out) = UseAnswer
-AnswerOf (seal_initial k w out) = UseAnswer
-AnswerOf (open5gs d k m out out2) = OpenAnswer
-AnswerOf (seal_eps inner out) = UseAnswer
-AnswerOf (open_eps m out) = EpsOpenAnswer
-AnswerOf make_n1_to_s1 = OctetAnswer
-AnswerOf (verify_n1_to_s1 s) = VerifyAnswer
-AnswerOf (make_s1_to_n1 ncc ngksi out) = UseAnswer
-AnswerOf (verify_s1_to_n1 v) = UseAnswer
-AnswerOf (reselect i c ik ck) = ChangeAnswer
+AnswerOf (set_window n) = Result ⊤ Refusal
+AnswerOf (seal5gs t d k inner out) = Result Spent Refusal
+AnswerOf (seal_opaque t d k inner out) = Result Spent Refusal
+AnswerOf (seal_initial k w out) = Result Spent Refusal
+AnswerOf (open5gs d k m out out2) = Result Opened (OpenError Received)
+AnswerOf (seal_eps inner out) = Result Spent Refusal
+AnswerOf (open_eps m out) = Result EpsReceived (OpenError EpsReceived)
+AnswerOf make_n1_to_s1 = Result MadeOctet Refusal
+AnswerOf (verify_n1_to_s1 s) = Result Reached Refusal
+AnswerOf (make_s1_to_n1 ncc ngksi out) = Result Spent Refusal
+AnswerOf (verify_s1_to_n1 v) = Result Spent Refusal
+AnswerOf (reselect i c ik ck) = Result ⊤ Refusal
+
+abbrev pub change_told : Result ⊤ Refusal → Values
+change_told a = change_values (told_change a)
+
+abbrev pub use_told : Result Spent Refusal → Values
+use_told a = use_values (told_use a)
 
 abbrev pub values_of : (k : Call) → AnswerOf k → Values
-values_of (set_window n) = change_values
-values_of (seal5gs t d k inner out) = use_values
-values_of (seal_opaque t d k inner out) = use_values
-values_of (seal_initial k w out) = use_values
-values_of (open5gs d k m out out2) = open_values
-values_of (seal_eps inner out) = use_values
-values_of (open_eps m out) = eps_open_values
-values_of make_n1_to_s1 = octet_values
-values_of (verify_n1_to_s1 s) = verify_values
-values_of (make_s1_to_n1 ncc ngksi out) = use_values
-values_of (verify_s1_to_n1 v) = use_values
-values_of (reselect i c ik ck) = change_values
+values_of (set_window n) = change_told
+values_of (seal5gs t d k inner out) = use_told
+values_of (seal_opaque t d k inner out) = use_told
+values_of (seal_initial k w out) = use_told
+values_of (open5gs d k m out out2) = λ a. open_values (told_open a)
+values_of (seal_eps inner out) = use_told
+values_of (open_eps m out) = λ a. eps_open_values (told_eps_open a)
+values_of make_n1_to_s1 = λ a. octet_values (told_octet a)
+values_of (verify_n1_to_s1 s) = λ a. verify_values (told_verify a)
+values_of (make_s1_to_n1 ncc ngksi out) = use_told
+values_of (verify_s1_to_n1 v) = use_told
+values_of (reselect i c ik ck) = change_told
 
 -- An implementation leaves an answer, a context and an output that meet the contract of the call (in crate covers, where each function is called).
 abbrev pub Meets : (k : Call) → Context → Leaves (AnswerOf k) → Type 0
 Meets k x l = outcome (values_of k) l ≡ gives k x
 
 -- and a 5GS open, both outputs
-abbrev pub MeetsBoth : Direction → Connection → List ℕ → List ℕ → List ℕ → Context → LeavesTwo OpenAnswer → Type 0
+abbrev pub MeetsBoth : Direction → Connection → List ℕ → List ℕ → List ℕ → Context → LeavesTwo (Result Opened (OpenError Received)) → Type 0
 MeetsBoth d k m out out2 x l =
     Meets (open5gs d k m out out2) x (first_of l) × (second_of l ≡ second (open5gs d k m out out2) x)
 
-abbrev pub MeetsMaking : Making → Leaves ChangeAnswer → Type 0
-MeetsMaking m l = outcome change_values l ≡ makes m
+abbrev pub MeetsMaking : Making → Leaves (Result ⊤ Refusal) → Type 0
+MeetsMaking m l = outcome change_told l ≡ makes m
 
 pub record OnlyOne : Type 0 where
   pub calls : (k : Call) (x : Context) (l l' : Leaves (AnswerOf k)) → Meets k x l → Meets k x l' → l ≡ l'
-  pub both : (d : Direction) (k : Connection) (m out out2 : List ℕ) (x : Context) (l l' : LeavesTwo OpenAnswer)
+  pub both : (d : Direction) (k : Connection) (m out out2 : List ℕ) (x : Context) (l l' : LeavesTwo (Result Opened (OpenError Received)))
       → MeetsBoth d k m out out2 x l → MeetsBoth d k m out out2 x l' → l ≡ l'
-  pub makings : (m : Making) (l l' : Leaves ChangeAnswer) → MeetsMaking m l → MeetsMaking m l' → l ≡ l'
+  pub makings : (m : Making) (l l' : Leaves (Result ⊤ Refusal)) → MeetsMaking m l → MeetsMaking m l' → l ≡ l'
 
 -- what a 5GS open call of G answers
 abbrev Opens5gs : (Outcome → Context → Direction → Connection → List ℕ → Type 0) → (Call → Context → Outcome) → Type 0

@@ -1,6 +1,7 @@
 -- No second answer fits, and wrong contexts do not keep demand 3.
+use Rattle.std.specs.Prelude.{Result, Ok, Err}
 use Prim.Native.Nat.{ℕ}
-use mathlib.Core.Path.{◌≡◌, refl, sym, ◌∙◌, subst}
+use mathlib.Core.Path.{◌≡◌, refl, sym, ap, ◌∙◌, subst}
 use mathlib.Core.Logic.{inl}
 use mathlib.Core.List.{List, [], ◌∷◌}
 use native.Mathlib.Omega.{arith}
@@ -10,14 +11,22 @@ use Rattle.count.specs.Run.{NoneTwice}
 use Rattle.nas_core.specs.Refusals.{unbuilt}
 use Rattle.nas_eps.specs.declared.Context.{Context}
 use Rattle.nas_core.specs.declared.Direction.TheVariants.{Uplink}
-use Rattle.nas_eps.specs.Leaves.{change_values}
+use Rattle.refusals.specs.declared.Refusal.{Refusal}
+use Rattle.nas_core.specs.ChangeAnswer.{told_change}
+use Rattle.nas_core.specs.UseAnswer.{told_use}
+use Rattle.nas_eps.specs.declared.Opened.{Opened}
+use Rattle.nas_eps.specs.declared.Opened.TheVariants as opened
+use Rattle.nas_eps.specs.OpenAnswer.{OpenAnswer, told_open}
+use Rattle.nas_eps.specs.OpenAnswer as open'
+use Rattle.nas_eps.specs.Leaves.{Leaves, leaves, change_values}
 use Rattle.nas_eps.specs.Changes.{context_with, new_of}
 use Rattle.nas_eps.specs.Octets.{service_request}
 use Rattle.promise.proofs.Acts.{same_keys}
+use Rattle.promise.proofs.Read.{refusal_with, refusal-back, change_with, change-told, use_with, use-told}
 use Rattle.promises_eps.specs.Calls.{Call, set_window, reselect, seal_message, seal_request, open_message, Making, create, restore, Outcome, outcome, gives, makes, context_after, counts_used}
 use Rattle.promises_eps.specs.Words.{AnswersRequest}
 use Rattle.promises_eps.specs.Demand3.{fresh as begun, NeverTo, Fresh, Keeps}
-use Rattle.promises_eps.specs.Tightness.{values_of, left_of, made_of, OnlyOne, LeavesStill, here, Tightness}
+use Rattle.promises_eps.specs.Tightness.{AnswerOf, values_of, left_of, made_of, in_words, Meets, OnlyOne, LeavesStill, here, Tightness}
 use Rattle.promises_eps.proofs.Taking.{request-is}
 
 -- the values of an answer are what the promises speak of
@@ -32,11 +41,37 @@ values-made : (m : Making) → outcome change_values (made_of m) ≡ makes m
 values-made (create i c ik ck) = refl
 values-made (restore i c ik ck up down) = refl
 
+-- the code's answer is read back from its words
+abbrev open_with : OpenAnswer → Result Opened Refusal
+open_with (open'.Refused n) = Err (refusal_with n)
+open_with (open'.Accepted c f w t) = Ok (opened.Message (record { count = c; distance = f; wrote = w; header_type = t }))
+open_with (open'.ServiceRequest c f i) = Ok (opened.ServiceRequest c f i)
+
+open-told : (a : Result Opened Refusal) → open_with (told_open a) ≡ a
+open-told (Ok (opened.Message m)) = refl
+open-told (Ok (opened.ServiceRequest c f i)) = refl
+open-told (Err r) = ap Err (refusal-back r)
+
+-- so what is left in words fixes what was left
+module _ {A W : Type 0} (told : A → W) (with' : W → A) (back : (a : A) → with' (told a) ≡ a) where
+  left_back : (l : Leaves A) → in_words with' (in_words told l) ≡ l
+  left_back (leaves a x out) = ap (λ (a' : A). leaves a' x out) (back a)
+
+  one_told : (w : Leaves W) (l l' : Leaves A) → in_words told l ≡ w → in_words told l' ≡ w → l ≡ l'
+  one_told w l l' p q = sym (left_back l) ∙ ap (in_words with') (p ∙ sym q) ∙ left_back l'
+
+one_only : (k : Call) (x : Context) (l l' : Leaves (AnswerOf k)) → Meets k x l → Meets k x l' → l ≡ l'
+one_only (set_window n) x = one_told told_change change_with change-told (left_of (set_window n) x)
+one_only (reselect i c ik ck) x = one_told told_change change_with change-told (left_of (reselect i c ik ck) x)
+one_only (seal_message t d inner out) x = one_told told_use use_with use-told (left_of (seal_message t d inner out) x)
+one_only (seal_request i out) x = one_told told_use use_with use-told (left_of (seal_request i out) x)
+one_only (open_message d m out) x = one_told told_open open_with open-told (left_of (open_message d m out) x)
+
 pub only_one : OnlyOne
 only_one =
     record {
-      calls = λ k x l l' e f. e ∙ sym f;
-      makings = λ m l l' e f. e ∙ sym f;
+      calls = one_only;
+      makings = λ m. one_told told_change change_with change-told (made_of m);
       values = values-given;
       made-values = values-made;
     }

@@ -10,11 +10,16 @@ mod line;
 use crate::line::{Kind, Line};
 use aes::{Input, Key};
 
+// So many octets of a result are written at once: the most that one has.
+const PIECE: usize = 0x1_0000;
+
 fn show(name: &[u8], octets: &[u8]) {
     io::write_all(1, name);
     io::write_all(1, b" ");
-    for &octet in octets {
-        io::print_hex(1, u64::from(octet), 2);
+    let mut text = [0; 2 * PIECE];
+    for piece in octets.chunks(PIECE) {
+        let n = hex_lines::put_octets(piece, &mut text, 0);
+        io::write_all(1, hex_lines::front(&text, n));
     }
     io::write_all(1, b"\n");
 }

@@ -48,6 +48,8 @@ fn with(text: &mut [u8], n: usize, c: u8) -> usize
 }
 
 // Takes in a piece that has no line end in it, behind the n characters that are held.
+// Not inlined, as `decoded`: only the parameters say that piece and text lie apart (hex_lines, `spread`).
+#[inline(never)]
 fn held(piece: &[u8], text: &mut [u8], n: usize) -> usize
     ensures { n ≤ length text.old → result ≤ length text.old }
 {
@@ -81,6 +83,7 @@ fn with_digit(octets: &mut [u8], digits: usize, c: u8) -> usize
 
 // Takes in a piece that has no line end in it, behind a line that ends with so many digits, and answers with how many it ends then. Their
 // octets come to the front of `octets`, as far as it holds them.
+#[inline(never)]
 fn decoded(piece: &[u8], octets: &mut [u8], digits: usize) -> usize
     ensures { digits ≤ 131074 → result ≤ 131074 }
 {
@@ -100,17 +103,13 @@ fn octets_in(digits: usize) -> Option<usize>
 }
 
 // A parsed line with the octets of the digits that it ends with, for those of the text that is held.
-fn with_octets<C: Copy, const N: usize>(line: Parsed<C, N>, digits: usize) -> Parsed<C, N>
+fn with_octets<C: Copy, const N: usize>(mut line: Parsed<C, N>, digits: usize) -> Parsed<C, N>
     ensures { result ≡ ended line digits }
 {
     if line.from.is_some() {
-        Parsed {
-            octets: octets_in(digits),
-            ..line
-        }
-    } else {
-        line
+        line.octets = octets_in(digits);
     }
+    line
 }
 
 impl Input {

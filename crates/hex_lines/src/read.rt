@@ -84,6 +84,9 @@ fn octet(c: u8, d: u8) -> u8
     digit(c) * 16 + digit(d)
 }
 
+// Not inlined: where text and output are fields of one struct, as in nas_hex and journal_write, only its parameters say that they lie apart, and a loop
+// that does not know it takes up to one and a half times as long.
+#[inline(never)]
 fn spread(text: &[u8], out: &mut [u8])
     requires { length text.now / 2 ≤ length out.old }
     ensures { out.new ≡ paste out.old 0 (octets_of text.now) (length text.now / 2) }

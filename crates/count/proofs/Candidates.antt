@@ -145,6 +145,14 @@ module _ (k size : ℕ) (r : Record) (s : ℕ) where
   unfolding late_of
   late-there o = simp (open-at size r (down_by k r s) o)
 
+  pub late-not : (OpenAt size r (down_by k r s) → ⊥) → late_of k size r s ≡ None
+  unfolding late_of
+  late-not shut = go (open_at size r (down_by k r s)) refl
+    where
+      go : (b : Bool) → open_at size r (down_by k r s) ≡ b → cond b (Some (r.next - 1 - down_by k r s)) None ≡ None
+      go true e = absurd (shut (at_open size r (down_by k r s) e))
+      go false e = refl
+
 -- it is open, and ends like s
 module _ (k size : ℕ) (r : Record) (s c : ℕ) where
   pub late_is : size < 2 ^ k → open_at size r (r.next - 1 - c) ≡ true → c % 2 ^ k ≡ s % 2 ^ k → late_of k size r s ≡ Some c

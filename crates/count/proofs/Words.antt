@@ -6,11 +6,15 @@ use native.Mathlib.Omega.{arith}
 use lib.Pow.{pow_mono, pow_pos, pow-add, mod-mod-pow, high, high_ones, ones_split, ones_lt}
 use lib.Bits.{bit_and, bit_or, and_mask, or_mod, or_shifted, or_shifted_r}
 
+-- a multiple of a larger power has no low bits
+pub no-low : (b : ℕ) {w k : ℕ} → w ≤ k → b * 2 ^ k % 2 ^ w ≡ 0
+no-low b {w} {k} h =
+    let e : k ≡ k - w + w = omega arith in
+    rw (e, pow-add, ← mul_assoc) (mul-mod_left (b * 2 ^ (k - w)) (2 ^ w))
+
 -- a word moved out of its digits
 pub moved_out : (b k : ℕ) → 64 ≤ k → b * 2 ^ k % 2 ^ 64 ≡ 0
-moved_out b k h =
-    let e : k ≡ k - 64 + 64 = omega arith in
-    rw (e, pow-add, ← mul_assoc) (mul-mod_left (b * 2 ^ (k - 64)) (2 ^ 64))
+moved_out b k h = no-low b h
 
 -- low bits of low bits
 pub low_of_low : (x : ℕ) {w k : ℕ} → w ≤ k → x % 2 ^ k % 2 ^ w ≡ x % 2 ^ w

@@ -41,6 +41,10 @@ pub both : (a b : Bool) → a && b ≡ true → (a ≡ true) × (b ≡ true)
 both true b e = (refl, e)
 both false b e = absurd (let z : ◌≡◌ {A = ℕ} 0 1 = cc in omega arith)
 
+pub and-true : (a : Bool) → a && true ≡ a
+and-true true = refl
+and-true false = refl
+
 -- what a record that stands there says of the octets
 pub record Stands (l : List ℕ) : Type 0 where
   pub first : get_or l 0 0 ≡ 0x4E

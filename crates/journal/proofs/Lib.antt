@@ -1,4 +1,5 @@
 pub mod Known
+pub mod Put
 pub mod Reading
 pub mod Counting
 pub mod Back

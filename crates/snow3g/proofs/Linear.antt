@@ -289,10 +289,11 @@ no_bits p v h = let e : v / 2 ^ 64 ≡ 0 = omega arith in ap (λ (x : ℕ). mul6
 pub all-bits : (p v : ℕ) → mul64 (v / 2 ^ 0) p 27 ≡ mul64 v p 27
 all-bits p v = let e : v / 1 ≡ v = omega arith in ap (λ (x : ℕ). mul64 x p 27) e
 
-turned-part : (p v n s : ℕ) (t : List ℕ) → v < 2 ^ 64 → t ≡ multiples p → s ≡ mul64 (v / 2 ^ ((n + 1) * 4)) p 27
+-- one turn, at the part n of v
+pub turned-bits : (p v n s : ℕ) (t : List ℕ) → v < 2 ^ 64 → t ≡ multiples p → s ≡ mul64 (v / 2 ^ ((n + 1) * 4)) p 27
     → bit_xor (x4 s) (get_or t (v / 2 ^ (n * 4) % 16) 0) ≡ mul64 (v / 2 ^ (n * 4)) p 27
 unfolding multiples
-turned-part p v n s t h e i =
+turned-bits p v n s t h e i =
     let f : (n + 1) * 4 ≡ n * 4 + 4 = omega arith in
     let d : v / 2 ^ ((n + 1) * 4) ≡ v / 2 ^ (n * 4) / 16 =
     ap (λ (x : ℕ). v / x) (ap (λ (x : ℕ). 2 ^ x) f ∙ pow-add 2 (n * 4) 4) ∙ sym (div-div-eq-div-mul v (2 ^ (n * 4)) 16) in
@@ -304,13 +305,13 @@ turned-part p v n s t h e i =
     sym (more-bits p (v / 2 ^ (n * 4) / 16) (v / 2 ^ (n * 4) % 16) w k) ∙
     ap (λ (x : ℕ). mul64 x p 27) (div-add-mod' (v / 2 ^ (n * 4)) 16)
 
--- one turn, at the part k of v, counted from the left
-pub turned-bits : (p v k s : ℕ) (t : List ℕ) → k < 16 → v < 2 ^ 64 → t ≡ multiples p → s ≡ mul64 (v / 2 ^ (64 - k * 4)) p 27
+-- the same, where parts are counted from the left
+pub turned-left : (p v k s : ℕ) (t : List ℕ) → k < 16 → v < 2 ^ 64 → t ≡ multiples p → s ≡ mul64 (v / 2 ^ (64 - k * 4)) p 27
     → bit_xor (x4 s) (get_or t (v / 2 ^ (60 - k * 4) % 16) 0) ≡ mul64 (v / 2 ^ (64 - (k + 1) * 4)) p 27
-turned-bits p v k s t l h e i =
+turned-left p v k s t l h e i =
     let a : 64 - k * 4 ≡ (15 - k + 1) * 4 = omega arith in
     let b : 60 - k * 4 ≡ (15 - k) * 4 = omega arith in
     let d : (15 - k) * 4 ≡ 64 - (k + 1) * 4 = omega arith in
     ap (λ n. bit_xor (x4 s) (get_or t (v / 2 ^ n % 16) 0)) b ∙
-    turned-part p v (15 - k) s t h e (i ∙ ap (λ n. mul64 (v / 2 ^ n) p 27) a) ∙
+    turned-bits p v (15 - k) s t h e (i ∙ ap (λ n. mul64 (v / 2 ^ n) p 27) a) ∙
     ap (λ n. mul64 (v / 2 ^ n) p 27) d

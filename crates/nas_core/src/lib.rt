@@ -280,6 +280,7 @@ impl Core {
     }
 
     // Whether the code that begins at octet `at` fits the COUNT; what is behind the COUNT's last octet goes to the output then, deciphered if it is to be.
+    #[tactic(auto, using(crate::proofs::Octets::rest), unfolding(crate::specs::Keyed::payload))]
     fn take(self, ciphered: bool, input: Input, at: usize, message: &[u8], out: &mut [u8]) -> bool
         requires { at + 5 + length out.old ≡ length message.now }
         ensures fits { result ≡ fits self input.count input.bearer input.direction at message.now }
@@ -338,17 +339,21 @@ impl Core {
         ensures read { out.new ≡ read_as (λ n. payload self ciphered n bearer direction (drop (at + 5) message.now)) out.old result }
     {
         let last = message[at + 4];
-        if let Some(count) = self.late(rec, last) {
-            let input = Input {
-                count,
-                bearer,
-                direction,
-            };
-            if self.take(ciphered, input, at, message, out) {
-                return Ok(Taken::Late(count));
+        match self.late(rec, last) {
+            None => self.verify_forward(rec, ciphered, bearer, direction, at, message, out),
+            Some(count) => {
+                let input = Input {
+                    count,
+                    bearer,
+                    direction,
+                };
+                if self.take(ciphered, input, at, message, out) {
+                    Ok(Taken::Late(count))
+                } else {
+                    self.verify_forward(rec, ciphered, bearer, direction, at, message, out)
+                }
             }
         }
-        self.verify_forward(rec, ciphered, bearer, direction, at, message, out)
     }
 
     // The record with the COUNT used forward.

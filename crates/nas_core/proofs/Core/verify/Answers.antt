@@ -1,28 +1,19 @@
-use Rattle.std.proofs.Common.{◌≡◌, List, ℕ, ◌+◌, drop, sym, ap, ◌∙◌}
+use Rattle.std.proofs.Common.{sym, ◌∙◌}
 use Rattle.count.specs.Rule.{opening}
-use Rattle.nas_core.specs.Keyed.{payload}
-use Rattle.nas_core.specs.Leaves.{read_as}
 use Rattle.nas_core.specs.Verify.{verify_of}
-use Rattle.nas_core.proofs.Core.verify.Goals.{in-Some+else-take, in_default}
 use Rattle.nas_core.proofs.Core.verify.Goals as goal
+
+pub returns-in-None : goal.returns-in-None
+unfolding verify_of opening
+returns-in-None c =
+    record { opening = simp (c.verify_forward.ensures.opening, sym c.late.ensures ∙ c.in-None.is); read = c.verify_forward.ensures.read }
 
 pub returns-then-take : goal.returns-then-take
 unfolding verify_of opening
 returns-then-take c =
     record { opening = simp (sym c.late.ensures ∙ c.in-Some.is, sym c.take.ensures.fits ∙ c.if-take.true); read = rw c.if-take.true at c.take.ensures.read }
 
-pub returns-clause-opening : goal.returns-clause-opening
+pub returns-else-take : goal.returns-else-take
 unfolding verify_of opening
-returns-clause-opening c = elim c.match-late.branch [
-  | in-Some+else-take w ↦ simp (c.verify_forward.ensures.opening, sym c.late.ensures ∙ w.in-Some.is, sym w.take.ensures.fits ∙ w.if-take.false)
-  | in_default w ↦ simp (c.verify_forward.ensures.opening, sym c.late.ensures ∙ w.in_default.is)
-]
-
-pub returns-clause-read : goal.returns-clause-read
-returns-clause-read c =
-    let a = c.args in
-    let carried : (ℕ → List ℕ) = λ n. payload a.self a.ciphered n a.bearer a.direction (drop (a.at + 5) a.message.now) in
-    c.verify_forward.ensures.read ∙ ap (λ (o : List ℕ). read_as carried o c.verify_forward.result) (elim c.match-late.branch [
-      | in-Some+else-take w ↦ w.out-is ∙ rw w.if-take.false at w.take.ensures.read
-      | in_default w ↦ w.out-is
-    ])
+returns-else-take c =
+    record { opening = simp (c.verify_forward-else-take.ensures.opening, sym c.late.ensures ∙ c.in-Some.is, sym c.take.ensures.fits ∙ c.if-take.false); read = rw (rw c.if-take.false at c.take.ensures.read) at c.verify_forward-else-take.ensures.read }

@@ -10,6 +10,7 @@ ghost use Rattle.nas_5gs.specs.EpsOpenAnswer.{told_eps_open};
 ghost use Rattle.nas_5gs.specs.OctetAnswer.{told_octet};
 ghost use Rattle.nas_5gs.specs.VerifyAnswer.{told_verify};
 ghost use Rattle.nas_5gs.specs.Leaves.{leaves, change_values, use_values, open_values, eps_open_values, octet_values, verify_values};
+ghost use Rattle.nas_5gs.specs.Places.{bearer_no, direction_no};
 ghost use Rattle.promises.specs.Calls.{set_window, seal5gs, seal_opaque, seal_initial, open5gs, seal_eps, open_eps, make_n1_to_s1, verify_n1_to_s1, make_s1_to_n1, verify_s1_to_n1, reselect, create, restore, next_count, window, integrity, ciphering, outcome, gives, second, makes, reads};
 ghost use Rattle.handover.specs.Across.{across_of};
 ghost use Rattle.promises_handover.specs.Handover.{across, connection_of, beside_of, any_gives};
@@ -184,6 +185,19 @@ pub fn read_ciphering(context: Context) -> u8
     ensures { result ≡ reads ciphering context }
 {
     context.ciphering()
+}
+
+// The numbers that the algorithms take for a connection and a direction.
+pub fn bearer(connection: Connection) -> u8
+    ensures { result ≡ bearer_no connection }
+{
+    connection.bearer()
+}
+
+pub fn direction(direction: Direction) -> u8
+    ensures { result ≡ direction_no direction }
+{
+    direction.number()
 }
 
 pub fn set_window_in_place(context: &mut Context, size: u8) -> Result<(), Refusal>

@@ -1,4 +1,4 @@
-// AES-128 (FIPS 197) by a table: one block, two side by side, and the key expansion. Only crate `aes` calls what has a `requires`.
+// AES-128 (FIPS 197) by a table: one block, two side by side, and the key expansion.
 #![tactic(auto)]
 
 mod cipher;
